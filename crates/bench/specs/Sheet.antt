@@ -1,0 +1,56 @@
+-- Document 01, 'Bench sheet': the starred cases, in the sheet's order, as far as the definitions below this crate decide them.
+-- Assumes nothing.
+use Prim.Native.Nat.{ℕ, suc}
+use mathlib.Core.Bool.{Bool, true, false, _&&_}
+use mathlib.Core.List.{List, [], _∷_}
+use mathlib.Core.Option.{Option, some, none}
+use lib.Dec.{eqb}
+use Rattle.value.specs.Class.{classOfAll}
+use Rattle.vcd.specs.Vcd.{vcdSymbols}
+use Rattle.packed.specs.Packed.{packed}
+use Rattle.signal.specs.Content.{symbols}
+use Rattle.signal.specs.declared.kind.SignalEncoding.the-variants.{BitVector}
+use Rattle.stream.specs.Stream.{changeBytes}
+
+pub data Case : Type 0 where
+  -- a VCD value on a vector says symbols
+  says : (width : ℕ) (value answer : List ℕ) → Case
+  -- symbols packed in their own class
+  packs : (answer bytes : List ℕ) → Case
+  -- a change of a vector, d after the previous one, as stream bytes
+  writes : (width d : ℕ) (value bytes : List ℕ) → Case
+
+unfoldable pub same : List ℕ → List ℕ → Bool
+same [] [] = true
+same [] (y ∷ b) = false
+same (x ∷ a) [] = false
+same (x ∷ a) (y ∷ b) = eqb x y && same a b
+
+abbrev pub answers : Option (List ℕ) → List ℕ → Bool
+answers none s = false
+answers (some a) s = same a s
+
+unfoldable pub holds : Case → Bool
+holds (says w v s) = answers (vcdSymbols w v) s
+holds (packs s b) = same (packed (classOfAll s) s) b
+holds (writes w d s b) = same (changeBytes (BitVector w) d (symbols s)) b
+
+unfoldable pub allHold : List Case → Bool
+allHold [] = true
+allHold (c ∷ l) = holds c && allHold l
+
+unfoldable pub sheet : List Case
+sheet =
+    -- width 1 "" → 0; "b" → 0; "b1x" → x
+    says 1 [] (0 ∷ [])
+    ∷ says 1 (98 ∷ []) (0 ∷ [])
+    ∷ says 1 (98 ∷ 49 ∷ 120 ∷ []) (2 ∷ [])
+    -- width 4 "1x" → 001x, packed 06
+    ∷ says 4 (49 ∷ 120 ∷ []) (0 ∷ 0 ∷ 1 ∷ 2 ∷ [])
+    ∷ packs (0 ∷ 0 ∷ 1 ∷ 2 ∷ []) (0x06 ∷ [])
+    -- width 3 "1-x" → 01 82
+    ∷ says 3 (49 ∷ 45 ∷ 120 ∷ []) (1 ∷ 8 ∷ 2 ∷ [])
+    ∷ packs (1 ∷ 8 ∷ 2 ∷ []) (0x01 ∷ 0x82 ∷ [])
+    -- width 1, d 8, symbol 1 → 81 01
+    ∷ writes 1 8 (1 ∷ []) (0x81 ∷ 0x01 ∷ [])
+    ∷ []

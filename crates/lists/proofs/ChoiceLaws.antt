@@ -1,0 +1,35 @@
+-- What holds of a value that may be missing, where it is there: said once of a choice and of a chain, and got out again.
+-- Assumes nothing.
+use mathlib.Core.Path.{_≡_, refl, subst}
+use mathlib.Core.Bool.{Bool, true, false, _&&_, _||_}
+use mathlib.Core.Option.{Option, some, none}
+use Rattle.lists.specs.Choice.{pick, bind}
+
+abbrev pub Where : {A : Type 0} → (A → Type 0) → Option A → Type 0
+Where P none = Unit {0}
+Where P (some x) = P x
+
+module _ {A : Type 0} (P : A → Type 0) where
+  pub where-some : (o : Option A) {x : A} → Where P o → o ≡ some x → P x
+  where-some o h e = subst (Where P) e h
+
+  pub where-map : (Q : A → Type 0) (o : Option A) → ((x : A) → P x → Q x) → Where P o → Where Q o
+  where-map Q none f h = tt
+  where-map Q (some x) f h = f x h
+
+  pub where-pick : (t : Bool) (a b : Option A) → (t ≡ true → Where P a) → (t ≡ false → Where P b) → Where P (pick t a b)
+  where-pick true a b f g = f refl
+  where-pick false a b f g = g refl
+
+  pub where-bind : {B : Type 0} (o : Option B) (k : B → Option A) → ((x : B) → o ≡ some x → Where P (k x)) → Where P (bind o k)
+  where-bind none k f = tt
+  where-bind (some x) k f = f x refl
+
+-- two tests that both hold, and two of which none does
+pub both-hold : (a b : Bool) → a && b ≡ true → (a ≡ true) × (b ≡ true)
+both-hold true b e = (refl, e)
+both-hold false b e = (cc, cc)
+
+pub none-holds : (a b : Bool) → a || b ≡ false → (a ≡ false) × (b ≡ false)
+none-holds false b e = (refl, e)
+none-holds true b e = (cc, cc)

@@ -1,0 +1,5 @@
+pub mod BytesLaws
+pub mod ChoiceLaws
+pub mod SetsLaws
+pub mod SmallLaws
+pub mod Table

@@ -1,0 +1,23 @@
+-- A run of stores in a list: two runs one after the other, and a run in a part of the list.
+-- Assumes nothing.
+use Prim.Native.Nat.{ℕ, suc, _+_, _≤_, _<_}
+use mathlib.Core.Path.{_≡_, _∙_}
+use mathlib.Core.List.{List, [], _∷_, _++_}
+use native.Mathlib.Nat.{add-zero, add-suc, suc-add}
+use native.Mathlib.Omega.{arith}
+use lib.ListN.{length, set}
+use lib.Seq.{sets, drop-set-add, take-set-lt, drop-set-lt, take-set-le}
+use borrow.Rule.Slice.PartMut.{putMid, midOf, put-same}
+
+pub sets-append : (a b l : List ℕ) (i : ℕ) → sets l i (a ++ b) ≡ sets (sets l i a) (i + length a) b
+sets-append [] b l i = simp add-zero
+sets-append (x ∷ a) b l i = sets-append a b (set l i x) (suc i) ∙ simp (suc-add, add-suc)
+
+-- what a callee that was lent the k elements from a on stored there, said of the whole: `putMid` is the form that the needs have
+pub sets-part : (vs xs : List ℕ) (a k j : ℕ) → j + length vs ≤ k → putMid a k xs (sets (midOf a k xs) j vs) ≡ sets xs (a + j) vs
+sets-part [] xs a k j h = put-same a k xs
+sets-part (v ∷ vs) xs a k j h =
+    let jk : j < k = omega arith in
+    let ih = sets-part vs (set xs (a + j) v) a k (suc j) (omega arith) in
+    let aj : a ≤ a + j = omega arith in
+    rw add-suc at (simp (drop-set-add, take-set-lt, drop-set-lt, take-set-le) at ih)

@@ -1,0 +1,4 @@
+pub mod Cases
+pub mod Leb128Laws
+pub mod Leb128Trip
+pub mod LittleEndianLaws

@@ -1,0 +1,4 @@
+pub mod PackedLaws
+pub mod RawLaws
+pub mod Cases
+pub mod RawSaid

@@ -1,0 +1,120 @@
+// Packed values, symbols of 1, 2 or 4 bits in bytes, and raw values, which come packed: document 01, 'Symbol and value', after
+// wellen's signal/value.rs. The last symbol stands in the lowest bits of the last byte, and unused top bits are zero.
+//
+// The contracts cite specs/Packed.antt and specs/Raw.antt; that packing and unpacking are inverse is proved in proofs/PackedLaws.antt.
+// `raw::decode_raw_change` has no `requires`: a bad value is an answer.
+pub mod raw;
+
+use value::states::MaybeStates;
+use value::states::States;
+use value::symbol::Bit;
+ghost use mathlib.Core.Path.{_≡_};
+ghost use Prim.Native.Nat.{_*_, _/_, _%_, _^_, _≤_, _<_};
+ghost use lib.ListN.{length};
+ghost use lib.Seq.{sets};
+ghost use lib.Dec.{eqb};
+ghost use Rattle.lists.specs.Choice.{pick};
+ghost use Rattle.value.specs.Class.{classNumber, bitsOf, largestOf, minStates};
+ghost use Rattle.packed.specs.Packed.{numberOf, digitAt, unpacked, packedLength, topClear};
+
+fn wide(x: u8) -> u32
+    ensures { λ r. ⌜ r ≡ x ⌝ }
+{
+    x as u32
+}
+
+// How many bytes a packed value of a width takes.
+pub fn bytes_required(states: States, width: u32) -> usize
+    ensures { λ r. ⌜ r ≡ packedLength width (classNumber states) ⌝ }
+{
+    match states {
+        States::Two => (width as usize + 7) / 8,
+        States::Four => (width as usize + 3) / 4,
+        States::Nine => (width as usize + 1) / 2,
+    }
+}
+
+// The lowest symbol of a byte's bits.
+fn lowest(x: u32, states: States) -> u8
+    ensures { λ r. ⌜ r ≡ x % 2 ^ bitsOf (classNumber states) ⌝ }
+{
+    match states {
+        States::Two => (x % 2) as u8,
+        States::Four => (x % 4) as u8,
+        States::Nine => (x % 16) as u8,
+    }
+}
+
+// The symbol at a place counted from the right.
+pub fn get_bit(bytes: &[u8], states: States, place: u32) -> Bit
+    requires { ⌜ place * bitsOf (classNumber states) / 8 < length (now bytes) ⌝ }
+    ensures { λ r. ⌜ r .0 ≡ digitAt (bitsOf (classNumber states)) place (numberOf 8 (now (bytes .entry))) ⌝ }
+{
+    let at = place as u64 * states.bits();
+    let byte = bytes[bytes.len() - 1 - (at / 8) as usize];
+    Bit(lowest(wide(byte) >> ((at % 8) as u32), states))
+}
+
+// Writes the symbols of a packed value, a byte each and leftmost first, to the start of out.
+pub fn unpack(out: &mut [u8], bytes: &[u8], width: u32, states: States)
+    requires { ⌜ (width ≤ length (now out)) × (packedLength width (classNumber states) ≤ length (now bytes)) ⌝ }
+    ensures { λ _. ⌜ now (out .exit) ≡ sets (now (out .entry)) 0 (unpacked width (classNumber states) (now (bytes .entry))) ⌝ }
+{
+    let mut i: u32 = 0;
+    while i < width {
+        let bit = get_bit(bytes, states, width - 1 - i);
+        let at = i as usize;
+        out[at] = bit.0;
+        i += 1;
+    }
+}
+
+// The largest symbol of a packed value.
+fn largest(bytes: &[u8], width: u32, states: States) -> u8
+    requires { ⌜ packedLength width (classNumber states) ≤ length (now bytes) ⌝ }
+    ensures { λ r. ⌜ r ≡ largestOf (unpacked width (classNumber states) (now (bytes .entry))) ⌝ }
+{
+    let mut m: u8 = 0;
+    let mut i: u32 = 0;
+    while i < width {
+        let bit = get_bit(bytes, states, i);
+        let x = bit.0;
+        i += 1;
+        if m < x {
+            m = x;
+        }
+    }
+    m
+}
+
+// The class of a packed value's symbols; none where one of them is above 8.
+pub fn find_min_states(bytes: &[u8], width: u32, states: States) -> MaybeStates
+    requires { ⌜ packedLength width (classNumber states) ≤ length (now bytes) ⌝ }
+    ensures { λ r. ⌜ r ≡ minStates (unpacked width (classNumber states) (now (bytes .entry))) ⌝ }
+{
+    let m = largest(bytes, width, states);
+    if 8 < m {
+        return MaybeStates::None;
+    }
+    MaybeStates::Some(States::from_bit(Bit(m)))
+}
+
+// Above the values of a first byte that has so many bits of symbols; 0 says that it is full.
+fn first_byte_limit(bits: u64) -> u32
+    requires { ⌜ bits < 8 ⌝ }
+    ensures { λ r. ⌜ r ≡ pick (eqb bits 0) 256 (2 ^ bits) ⌝ }
+{
+    if bits == 0 {
+        return 256;
+    }
+    1u32 << (bits as u32)
+}
+
+// Whether the bits above the symbols of a packed value are zero.
+pub fn top_clear(bytes: &[u8], width: u32, states: States) -> bool
+    requires { ⌜ (0 < width) × (length (now bytes) ≡ packedLength width (classNumber states)) ⌝ }
+    ensures { λ r. ⌜ r ≡ topClear width (classNumber states) (now (bytes .entry)) ⌝ }
+{
+    let used = width as u64 * states.bits() % 8;
+    wide(bytes[0]) < first_byte_limit(used)
+}

@@ -1,0 +1,23 @@
+// Kinds of signals, after wellen's SignalEncoding.
+ghost use mathlib.Core.Path.{_≡_};
+ghost use Rattle.signal.specs.Kind.{widthOf};
+
+// A vector of width 0 is an event.
+pub enum SignalEncoding {
+    BitVector(u32),
+    Real,
+    Absent,
+}
+
+impl SignalEncoding {
+    // The width of a vector, 0 for the others.
+    pub fn width(self) -> u32
+        ensures { λ r. ⌜ r ≡ widthOf self ⌝ }
+    {
+        match self {
+            SignalEncoding::BitVector(width) => width,
+            SignalEncoding::Real => 0,
+            SignalEncoding::Absent => 0,
+        }
+    }
+}

@@ -1,0 +1,5 @@
+pub mod StreamTrip
+pub mod LengthLaws
+pub mod SaysLaws
+pub mod ReadLaws
+pub mod WriteLaws

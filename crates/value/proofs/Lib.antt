@@ -1,0 +1,4 @@
+pub mod SymbolLaws
+pub mod ClassLaws
+pub mod RealLaws
+pub mod Cases

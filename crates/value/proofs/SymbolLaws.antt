@@ -1,0 +1,55 @@
+-- A byte's symbol is below 9, so that 255 can say "no symbol"; and each symbol has its letter.
+-- Assumes nothing.
+use Prim.Native.Nat.{ℕ, zero, suc, _+_, _≤_, _<_}
+use mathlib.Core.Path.{_≡_, refl, sym, ap}
+use mathlib.Core.Bool.{Bool, true, false}
+use mathlib.Core.List.{List, [], _∷_}
+use mathlib.Core.Option.{Option, some, none}
+use native.Mathlib.Omega.{arith}
+use lib.Dec.{eqb, eqb→eq}
+use lib.ListN.{length, getD}
+use Rattle.lists.specs.Choice.{pick}
+use Rattle.lists.proofs.Table.{at}
+use Rattle.value.specs.Symbol.{placeFrom, letters, lowered, symbolOf, orNumber, maybeBit}
+use Rattle.value.specs.declared.symbol.Bit.{Bit}
+use Rattle.value.specs.declared.symbol.MaybeBit.{MaybeBit}
+use Rattle.value.specs.declared.symbol.MaybeBit.the-variants.{Some, None}
+
+abbrev pub Below : ℕ → Option ℕ → Type 0
+Below k none = Unit {0}
+Below k (some s) = s < k
+
+place-below : (b n k : ℕ) (l : List ℕ) → n + length l ≤ k → Below k (placeFrom b n l)
+place-below b n k [] h = tt
+place-below b n k (x ∷ l) h = by (eqb b x) (place-below b (suc n) k l (omega arith))
+  where
+    by : (t : Bool) → Below k (placeFrom b (suc n) l) → Below k (pick t (some n) (placeFrom b (suc n) l))
+    by true r = omega arith
+    by false r = r
+
+pub symbol-below : (b : ℕ) → Below 9 (symbolOf b)
+unfolding symbolOf
+symbol-below b = place-below (lowered b) 0 9 letters (omega arith)
+
+-- what the number of a symbol that may be missing says
+pub none-number : (o : Option ℕ) → Below 9 o → orNumber 255 o ≡ 255 → o ≡ none
+none-number none h e = refl
+none-number (some s) h e = absurd (omega arith)
+
+pub some-number : (o : Option ℕ) (n : ℕ) → n ≡ orNumber 255 o → (n ≡ 255 → ⊥) → o ≡ some n
+some-number none n e h = absurd (h e)
+some-number (some s) n e h = rw e refl
+
+pub number-below : (o : Option ℕ) (n : ℕ) → Below 9 o → n ≡ orNumber 255 o → (n ≡ 255 → ⊥) → n < 9
+number-below none n b e h = absurd (h e)
+number-below (some s) n b e h = rw e b
+
+-- the letter of a symbol: one test over the letters
+letter-right : ℕ → ℕ → Bool
+letter-right x b = eqb (orNumber 255 (symbolOf b)) x
+
+pub letter-symbol : (x : ℕ) → x ≤ 8 → symbolOf (getD letters x 0) ≡ some x
+unfolding symbolOf letter-right
+letter-symbol x h =
+    let e = eqb→eq _ _ (at letter-right letters tt x (omega arith)) in
+    some-number (symbolOf (getD letters x 0)) x (sym e) (λ f. omega arith)

@@ -1,0 +1,4 @@
+pub mod Symbol
+pub mod Class
+pub mod Change
+pub mod Real

@@ -1,0 +1,74 @@
+// The class of a symbol and of a value: how many states a symbol can have.
+use crate::symbol::Bit;
+ghost use mathlib.Core.Path.{_≡_};
+ghost use Prim.Native.Nat.{_≤_, max};
+ghost use Rattle.value.specs.Class.{classNumber, statesOf, classOf, bitsOf};
+
+// Document 01's class.
+pub enum States {
+    Two,
+    Four,
+    Nine,
+}
+
+pub enum MaybeStates {
+    Some(States),
+    None,
+}
+
+impl States {
+    pub fn number(self) -> u8
+        ensures { λ r. ⌜ r ≡ classNumber self ⌝ }
+    {
+        match self {
+            States::Two => 0,
+            States::Four => 1,
+            States::Nine => 2,
+        }
+    }
+
+    // A number above 2 gives Nine.
+    pub fn from_number(n: u8) -> States
+        ensures { λ r. ⌜ r ≡ statesOf n ⌝ }
+    {
+        if n == 0 {
+            return States::Two;
+        }
+        if n == 1 {
+            return States::Four;
+        }
+        States::Nine
+    }
+
+    pub fn from_bit(value: Bit) -> States
+        ensures { λ r. ⌜ r ≡ statesOf (classOf (value .0)) ⌝ }
+    {
+        if value.0 < 2 {
+            States::Two
+        } else if value.0 < 4 {
+            States::Four
+        } else {
+            States::Nine
+        }
+    }
+
+    pub fn join(a: States, b: States) -> States
+        ensures { λ r. ⌜ r ≡ statesOf (max (classNumber a) (classNumber b)) ⌝ }
+    {
+        if a.number() < b.number() {
+            return b;
+        }
+        a
+    }
+
+    // How many bits a symbol takes.
+    pub fn bits(self) -> u64
+        ensures { λ r. ⌜ (r ≡ bitsOf (classNumber self)) × (r ≤ 4) ⌝ }
+    {
+        match self {
+            States::Two => 1,
+            States::Four => 2,
+            States::Nine => 4,
+        }
+    }
+}

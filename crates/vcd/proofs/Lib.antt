@@ -1,0 +1,4 @@
+pub mod SymbolsLaws
+pub mod ExtendedLaws
+pub mod VcdLaws
+pub mod Cases

@@ -1,0 +1,180 @@
+// Published values, through the code: LEB128 (DWARF's examples, 0, 624485 and the largest 32-bit number), little-endian numbers, and values
+// that a signal takes or refuses. The file `stdout` was written by hand, from the documents.
+use libc::STDOUT_FILENO;
+use numbers::leb128::Leb128;
+use numbers::leb128::get_leb128;
+use numbers::leb128::leb128_len;
+use numbers::leb128::put_leb128;
+use numbers::little_endian::get_u32;
+use numbers::little_endian::get_u64;
+use numbers::little_endian::put_u32;
+use numbers::little_endian::put_u64;
+use signal::decode::DecodedChange;
+use signal::decode::decode_raw;
+use signal::decode::decode_vcd;
+use signal::kind::SignalEncoding;
+ghost use mathlib.Core.Path.{_≡_};
+
+fn wide(x: u8) -> u64
+    ensures { λ r. ⌜ r ≡ x ⌝ }
+{
+    x as u64
+}
+
+fn print(text: &[u8]) {
+    io::write_all(STDOUT_FILENO, text);
+}
+
+// Each byte as two digits.
+fn print_bytes(s: &[u8]) {
+    let mut i = 0;
+    while i < s.len() {
+        io::print_hex(STDOUT_FILENO, wide(s[i]), 2);
+        i += 1;
+    }
+}
+
+// The bytes before a place.
+fn before(s: &[u8], end: usize) -> &[u8] {
+    if s.len() < end {
+        return s;
+    }
+    &s[0..end]
+}
+
+// The number that stands in bytes, and how many it takes.
+fn read_leb128(s: &[u8]) {
+    print(b"read ");
+    print_bytes(s);
+    match get_leb128(s, 0) {
+        Leb128::Value(v, next) => {
+            print(b" ");
+            io::print_decimal(STDOUT_FILENO, v as u64);
+            print(b" ");
+            io::print_decimal(STDOUT_FILENO, next as u64);
+            print(b"\n");
+        }
+        Leb128::Bad => print(b" bad\n"),
+    }
+}
+
+// A number's bytes, and the number that they read as.
+fn leb128(v: u32) {
+    let mut buf = [0u8; 8];
+    if 8 < leb128_len(v) {
+        return print(b"leb128 too long\n");
+    }
+    let end = put_leb128(&mut buf, 0, v);
+    print(b"leb128 ");
+    io::print_decimal(STDOUT_FILENO, v as u64);
+    print(b" ");
+    print_bytes(before(&buf, end));
+    print(b"\n");
+    read_leb128(before(&buf, end));
+}
+
+fn leb128_values() {
+    leb128(0);
+    leb128(2);
+    leb128(127);
+    leb128(128);
+    leb128(129);
+    leb128(130);
+    leb128(12857);
+    leb128(624485);
+    leb128(4294967295);
+}
+
+// Longer forms, a number of 33 bits, and forms that are cut off.
+fn leb128_refused() {
+    read_leb128(b"\x80\x00");
+    read_leb128(b"\x80\x80\x00");
+    read_leb128(b"\xff\xff\xff\xff\x1f");
+    read_leb128(b"\x80");
+    read_leb128(b"");
+}
+
+fn little_endian_32(v: u32) {
+    let mut buf = [0u8; 4];
+    put_u32(&mut buf, 0, v);
+    print(b"u32 ");
+    print_bytes(&buf);
+    print(b" ");
+    io::print_hex(STDOUT_FILENO, get_u32(&buf, 0) as u64, 8);
+    print(b"\n");
+}
+
+fn little_endian_64(v: u64) {
+    let mut buf = [0u8; 8];
+    put_u64(&mut buf, 0, v);
+    print(b"u64 ");
+    print_bytes(&buf);
+    print(b" ");
+    io::print_hex(STDOUT_FILENO, get_u64(&buf, 0), 16);
+    print(b"\n");
+}
+
+// The class that the top class rises to, or the refusal's number.
+fn print_decoded(r: DecodedChange) {
+    match r {
+        DecodedChange::Change(_, top) => {
+            print(b" good ");
+            io::print_decimal(STDOUT_FILENO, wide(top.number()));
+            print(b"\n");
+        }
+        DecodedChange::Refused(n) => {
+            print(b" bad ");
+            io::print_decimal(STDOUT_FILENO, n as u64);
+            print(b"\n");
+        }
+    }
+}
+
+fn vcd(width: u32, value: &[u8]) {
+    print(b"vcd ");
+    io::print_decimal(STDOUT_FILENO, width as u64);
+    print(b" '");
+    print(value);
+    print(b"'");
+    print_decoded(decode_vcd(SignalEncoding::BitVector(width), value));
+}
+
+fn raw(width: u32, claim: u32, value: &[u8]) {
+    print(b"raw ");
+    io::print_decimal(STDOUT_FILENO, width as u64);
+    print(b" ");
+    io::print_decimal(STDOUT_FILENO, claim as u64);
+    print(b" '");
+    print_bytes(value);
+    print(b"'");
+    print_decoded(decode_raw(SignalEncoding::BitVector(width), claim, value));
+}
+
+fn vcd_values() {
+    vcd(1, b"B");
+    vcd(2, b"0b");
+    vcd(2, b"h");
+    vcd(2, b"b");
+    vcd(2, b"101");
+    vcd(0, b"");
+    vcd(0, b"x");
+    vcd(0, b"xx");
+}
+
+// A byte short, no such class, a symbol 9, and a width whose bits do not fit 32 bits.
+fn raw_values() {
+    raw(2, 2, b"");
+    raw(2, 3, b"\x00");
+    raw(2, 2, b"\x09");
+    raw(2, 2, b"\x90");
+    raw(0x40000001, 2, b"\x00");
+}
+
+fn main() {
+    leb128_values();
+    leb128_refused();
+    little_endian_32(0x12345678);
+    little_endian_64(0x0123456789abcdef);
+    vcd_values();
+    raw_values();
+}

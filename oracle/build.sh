@@ -1,0 +1,112 @@
+#!/bin/bash
+# Builds the oracle: the Rust sources of the crate wellen, two edits, a driver
+# and stand-ins. Prints every difference between the sources and their copy.
+#   WELLEN_SRC    folder that holds the sources' src (default: beside the repository)
+#   ORACLE_BUILD  build folder, made anew but for its target folder
+#                 (default: the repository's target/oracle)
+# The program is then ORACLE_BUILD/oracle.
+set -euo pipefail
+
+here=$(cd "$(dirname "$0")" && pwd)
+source=${WELLEN_SRC:-$here/../../shared/docs/src}/src
+build=${ORACLE_BUILD:-$here/../target/oracle}
+
+fail() {
+    echo "build.sh: $*" >&2
+    exit 1
+}
+
+[ -f "$source/wavemem.rs" ] || fail "no wavemem.rs in $source (set WELLEN_SRC)"
+command -v cargo >/dev/null || fail "no cargo"
+
+# Packages.
+
+packages='librust-indexmap-dev librust-memmap2-dev librust-miniz-oxide-dev
+    librust-num-enum-dev librust-rayon-dev librust-rustc-hash-dev
+    librust-smallvec-dev librust-thiserror-dev'
+missing=
+for package in $packages; do
+    dpkg-query -W -f '${Status}' "$package" 2>/dev/null | grep -q 'ok installed' ||
+        missing="$missing $package"
+done
+install_missing() {
+    DEBIAN_FRONTEND=noninteractive \
+        apt-get install -y -qq --no-install-recommends $missing >/dev/null
+}
+if [ -n "$missing" ]; then
+    echo "installing$missing"
+    install_missing || { apt-get update -qq && install_missing; } || fail "apt-get failed"
+fi
+registry=$(dpkg -L librust-smallvec-dev | sed -n '\|/cargo/registry$|p')
+[ -d "$registry" ] || fail "Debian's registry folder not found"
+
+# The copy.
+
+mkdir -p "$build"
+build=$(cd "$build" && pwd)
+rm -rf "$build/src" "$build/standins" "$build/.cargo" "$build/Cargo.lock" "$build/oracle"
+cp -R "$source" "$build/src"
+chmod -R u+w "$build/src"
+cp "$here/Cargo.toml" "$build/"
+mkdir "$build/standins" "$build/.cargo"
+cp -R "$here/standins/fst-reader" "$here/standins/leb128" "$here/standins/lz4_flex" \
+    "$here/standins/rustc-hash" "$build/standins/"
+
+# edit FILE OLD NEW: puts NEW for OLD, which must stand there exactly once.
+# Neither has a character that means something to sed.
+edit() {
+    local count
+    count=$({ grep -oF -- "$2" "$build/src/$1" || true; } | wc -l)
+    [ "$count" -eq 1 ] || fail "$1: '$2' found $count times, not once"
+    sed -i "s|$2|$3|" "$build/src/$1"
+}
+
+# append FILE LINE: LINE must not stand there yet.
+append() {
+    ! grep -qxF -- "$2" "$build/src/$1" || fail "$1: already has '$2'"
+    echo "$2" >>"$build/src/$1"
+}
+
+edit wavemem.rs 'const SKIP_COMPRESSION: bool = false;' 'const SKIP_COMPRESSION: bool = true;'
+edit wavemem.rs 'BlockTimeIdx::MAX as usize' 'oracle::block_limit() as usize'
+append wavemem.rs 'pub mod oracle;'
+append signal/mod.rs 'pub(crate) mod oracle;'
+append lib.rs 'pub use wavemem::oracle;'
+
+# The edits must be all that differs.
+difference=$(diff -ru "$source" "$build/src" || true)
+echo "$difference"
+removed=$(grep -c '^-[^-]' <<<"$difference" || true)
+added=$(grep -c '^+[^+]' <<<"$difference" || true)
+[ "$removed $added" = '2 5' ] ||
+    fail "$removed lines removed and $added added, not 2 and 5"
+
+# New files; none may take the place of a source.
+
+add() {
+    [ ! -e "$build/src/$2" ] || fail "the sources have $2, no stand-in is needed"
+    mkdir -p "$(dirname "$build/src/$2")"
+    cp "$here/$1" "$build/src/$2"
+}
+
+add driver/main.rs bin/oracle.rs
+add driver/wavemem.rs wavemem/oracle.rs
+add driver/signal.rs signal/oracle.rs
+add standins/modules/ghw.rs ghw.rs
+add standins/modules/simple.rs simple.rs
+add standins/modules/stream.rs stream.rs
+add standins/modules/viewers.rs viewers.rs
+add standins/modules/signal_map.rs signal/map.rs
+
+# The build: no network, crates from Debian's folder.
+
+cat >"$build/.cargo/config.toml" <<END
+[source.crates-io]
+replace-with = "debian"
+[source.debian]
+directory = "$registry"
+END
+(cd "$build" && cargo build --quiet --offline --bins --target-dir "$build/target")
+cp "$build/target/debug/oracle" "$build/oracle"
+"$build/oracle" selftest
+echo "built $build/oracle"

@@ -1,0 +1,12 @@
+fn main() {
+    let arguments: Vec<String> = std::env::args().skip(1).collect();
+    let arguments: Vec<&str> = arguments.iter().map(String::as_str).collect();
+    match arguments[..] {
+        ["values"] => wellen::oracle::values(),
+        ["selftest"] => wellen::oracle::selftest(),
+        _ => {
+            eprintln!("usage: oracle values <QUESTIONS >ANSWERS\n       oracle selftest");
+            std::process::exit(2);
+        }
+    }
+}

@@ -1,0 +1,3 @@
+//! Stand-in for signal/map. Never reached.
+
+pub struct SignalMap;
