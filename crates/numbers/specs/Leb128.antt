@@ -16,12 +16,12 @@ unfoldable pub groups : ℕ → ℕ → List ℕ
 groups zero v = v ∷ []
 groups (suc k) v = pick (ltb v 128) (v ∷ []) ((v % 128 + 128) ∷ groups k (v / 128))
 
--- the bytes of a 32-bit number
+-- the bytes of a 32-bit number (of larger ones it says nothing)
 unfoldable pub lebOf : ℕ → List ℕ
 unfolding groups
 lebOf v = groups 4 v
 
--- a byte b with its top bit set, before a number h: no shortest form where h is 0, and more than 32 bits from 2^25 on
+-- a byte b with its top bit set, before a number h: no shortest form where h is 0, and more than 32 bits where h is 2^25 (33,554,432) or more
 abbrev pub above : ℕ → Leb128 → Leb128
 above b (Value h n) = pick (eqb h 0) Bad (pick (ltb h 33554432) (Value (b - 128 + 128 * h) n) Bad)
 above b Bad = Bad

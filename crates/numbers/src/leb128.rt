@@ -83,7 +83,7 @@ fn leb128_from(s: &[u8], at: usize, left: usize) -> Leb128
     over(b, leb128_from(s, at + 1, left - 1))
 }
 
-// The number that stands at a place; every other place is refused, a number of more than 32 bits too.
+// The number that stands at a place; `Bad` where no shortest form of a 32-bit number stands.
 pub fn get_leb128(s: &[u8], at: usize) -> Leb128
     ensures { λ r. ⌜ r ≡ lebAt (now (s .entry)) at ⌝ }
 {

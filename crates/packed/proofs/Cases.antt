@@ -12,24 +12,24 @@ use Rattle.packed.specs.Raw.{rawSymbols}
 -- ---- the sheet: the class of the symbols, and their bytes in it, both ways
 
 -- width 4 "1x", extended to 001x
-pub sheet-001x : (classOfAll (0 ∷ 0 ∷ 1 ∷ 2 ∷ []) ≡ 1) × (packed 1 (0 ∷ 0 ∷ 1 ∷ 2 ∷ []) ≡ 0x06 ∷ []) × (unpacked 4 1 (0x06 ∷ []) ≡ 0 ∷ 0 ∷ 1 ∷ 2 ∷ [])
+pub packed-001x : (classOfAll (0 ∷ 0 ∷ 1 ∷ 2 ∷ []) ≡ 1) × (packed 1 (0 ∷ 0 ∷ 1 ∷ 2 ∷ []) ≡ 0x06 ∷ []) × (unpacked 4 1 (0x06 ∷ []) ≡ 0 ∷ 0 ∷ 1 ∷ 2 ∷ [])
 unfolding classOfAll packed unpacked digits numberOf
-sheet-001x = (refl, refl, refl)
+packed-001x = (refl, refl, refl)
 
 -- width 3 "1-x"
-pub sheet-1-x : (classOfAll (1 ∷ 8 ∷ 2 ∷ []) ≡ 2) × (packed 2 (1 ∷ 8 ∷ 2 ∷ []) ≡ 0x01 ∷ 0x82 ∷ []) × (unpacked 3 2 (0x01 ∷ 0x82 ∷ []) ≡ 1 ∷ 8 ∷ 2 ∷ [])
+pub packed-1-x : (classOfAll (1 ∷ 8 ∷ 2 ∷ []) ≡ 2) × (packed 2 (1 ∷ 8 ∷ 2 ∷ []) ≡ 0x01 ∷ 0x82 ∷ []) × (unpacked 3 2 (0x01 ∷ 0x82 ∷ []) ≡ 1 ∷ 8 ∷ 2 ∷ [])
 unfolding classOfAll packed unpacked digits numberOf
-sheet-1-x = (refl, refl, refl)
+packed-1-x = (refl, refl, refl)
 
 -- width 3 "101"
-pub sheet-101 : (classOfAll (1 ∷ 0 ∷ 1 ∷ []) ≡ 0) × (packed 0 (1 ∷ 0 ∷ 1 ∷ []) ≡ 0x05 ∷ []) × (unpacked 3 0 (0x05 ∷ []) ≡ 1 ∷ 0 ∷ 1 ∷ [])
+pub packed-101 : (classOfAll (1 ∷ 0 ∷ 1 ∷ []) ≡ 0) × (packed 0 (1 ∷ 0 ∷ 1 ∷ []) ≡ 0x05 ∷ []) × (unpacked 3 0 (0x05 ∷ []) ≡ 1 ∷ 0 ∷ 1 ∷ [])
 unfolding classOfAll packed unpacked digits numberOf
-sheet-101 = (refl, refl, refl)
+packed-101 = (refl, refl, refl)
 
 -- width 3 "1x0"
-pub sheet-1x0 : (classOfAll (1 ∷ 2 ∷ 0 ∷ []) ≡ 1) × (packed 1 (1 ∷ 2 ∷ 0 ∷ []) ≡ 0x18 ∷ []) × (unpacked 3 1 (0x18 ∷ []) ≡ 1 ∷ 2 ∷ 0 ∷ [])
+pub packed-1x0 : (classOfAll (1 ∷ 2 ∷ 0 ∷ []) ≡ 1) × (packed 1 (1 ∷ 2 ∷ 0 ∷ []) ≡ 0x18 ∷ []) × (unpacked 3 1 (0x18 ∷ []) ≡ 1 ∷ 2 ∷ 0 ∷ [])
 unfolding classOfAll packed unpacked digits numberOf
-sheet-1x0 = (refl, refl, refl)
+packed-1x0 = (refl, refl, refl)
 
 -- ---- the bits above the symbols
 

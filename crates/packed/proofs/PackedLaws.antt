@@ -265,21 +265,3 @@ push-keep b acc x l = rw (pow-next (length l) b) (omega arith)
 -- one byte is written
 pub push-byte : (n x r : ℕ) → x < 256 → r < 2 ^ (n * 8) → digits 8 (suc n) (x * 2 ^ (n * 8) + r) ≡ x ∷ digits 8 n r
 push-byte n x r h k = push 8 n x r h k
-
--- a turn that fills no byte: what is left to write is the same
-pub turn-keep : (c acc x : ℕ) (l : List ℕ) → (length l * bitsOf c % 8 ≡ 0 → ⊥)
-    → digits 8 (packedLength (suc (length l)) c) (acc * 2 ^ (suc (length l) * bitsOf c) + numberOf (bitsOf c) (x ∷ l))
-    ≡ digits 8 (packedLength (length l) c) ((acc * 2 ^ bitsOf c + x) * 2 ^ (length l * bitsOf c) + numberOf (bitsOf c) l)
-turn-keep c acc x l h = rw (length-part (length l) c h, push-keep (bitsOf c) acc x l) refl
-
--- a turn that fills one: it is the first byte of what was left
-pub turn-byte : (c acc x : ℕ) (l : List ℕ) → AllBelow (2 ^ bitsOf c) l → acc * 2 ^ bitsOf c + x < 256 → length l * bitsOf c % 8 ≡ 0
-    → digits 8 (packedLength (suc (length l)) c) (acc * 2 ^ (suc (length l) * bitsOf c) + numberOf (bitsOf c) (x ∷ l))
-    ≡ (acc * 2 ^ bitsOf c + x) ∷ digits 8 (packedLength (length l) c) (numberOf (bitsOf c) l)
-turn-byte c acc x l b k h =
-    let n = packedLength (length l) c in
-    let y = acc * 2 ^ bitsOf c + x in
-    let r = numberOf (bitsOf c) l in
-    let e : length l * bitsOf c ≡ n * 8 = omega arith in
-    rw (length-full (length l) c h, push-keep (bitsOf c) acc x l)
-    (ap (λ (m : ℕ). digits 8 (suc n) (y * 2 ^ m + r)) e ∙ push-byte n y r k (rw e at (number-lt (bitsOf c) l b)))

@@ -99,7 +99,7 @@ pub fn find_min_states(bytes: &[u8], width: u32, states: States) -> MaybeStates
     MaybeStates::Some(States::from_bit(Bit(m)))
 }
 
-// Above the values of a first byte that has so many bits of symbols; 0 says that it is full.
+// One above the largest first byte with so many bits of symbols; 0 means all eight.
 fn first_byte_limit(bits: u64) -> u32
     requires { ⌜ bits < 8 ⌝ }
     ensures { λ r. ⌜ r ≡ pick (eqb bits 0) 256 (2 ^ bits) ⌝ }

@@ -1,2 +1,2 @@
 pub mod PackLaws
-pub mod NotedLaws
+pub mod NotationLaws

@@ -12,11 +12,12 @@ use Rattle.packed.specs.Packed.{packedLength, unpacked}
 use Rattle.packer.specs.declared.Notation.{Notation}
 use Rattle.packer.specs.declared.Notation.the-variants.{Ascii, Packed}
 
-abbrev pub noted : Notation → (width : ℕ) → List ℕ → List ℕ
-noted Ascii w b = orEmpty (textSymbols w b)
-noted (Packed c) w b = unpacked w (classNumber c) b
+-- the symbols that bytes stand for
+abbrev pub symbolsFrom : Notation → (width : ℕ) → List ℕ → List ℕ
+symbolsFrom Ascii w b = orEmpty (textSymbols w b)
+symbolsFrom (Packed c) w b = unpacked w (classNumber c) b
 
 -- what the bytes must be, so that each place has a symbol
-abbrev pub Noted : Notation → (width : ℕ) → List ℕ → Type 0
-Noted Ascii w b = isSome (textSymbols w b) ≡ true
-Noted (Packed c) w b = packedLength w (classNumber c) ≤ length b
+abbrev pub Readable : Notation → (width : ℕ) → List ℕ → Type 0
+Readable Ascii w b = isSome (textSymbols w b) ≡ true
+Readable (Packed c) w b = packedLength w (classNumber c) ≤ length b

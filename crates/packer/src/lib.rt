@@ -1,6 +1,7 @@
-// Packing: the symbols of a vector, from VCD text or from another packed value, into the bytes of a class.
+// Packing: the symbols of a vector, from VCD text or from another packed value, into the bytes of a class. Document 01, 'Symbol and
+// value'.
 //
-// The contract cites `noted` of specs/Notation.antt (which symbols) and `packed` of the crate packed (which bytes). One pass, no copy.
+// The contract cites `symbolsFrom` of specs/Notation.antt (which symbols) and `packed` of the crate packed (which bytes). One pass, no copy.
 use packed::get_bit;
 use value::states::States;
 use vcd::extended_symbol;
@@ -11,7 +12,7 @@ ghost use lib.ListN.{length, getD};
 ghost use lib.Seq.{sets};
 ghost use Rattle.value.specs.Class.{classNumber, bitsOf, classOfAll, allSymbols};
 ghost use Rattle.packed.specs.Packed.{packed, packedLength};
-ghost use Rattle.packer.specs.Notation.{noted, Noted};
+ghost use Rattle.packer.specs.Notation.{symbolsFrom, Readable};
 
 // How the symbols of a vector stand in bytes: as VCD text without its prefix, to be extended to the left, or packed in a class.
 pub enum Notation {
@@ -27,8 +28,8 @@ fn wide(x: u8) -> u32
 
 // The symbol at a place counted from the left.
 fn symbol_at(src: &[u8], notation: Notation, width: u32, place: u32) -> u8
-    requires { ⌜ Noted notation width (now src) × (place < width) ⌝ }
-    ensures { λ r. ⌜ r ≡ getD (noted notation width (now (src .entry))) place 0 ⌝ }
+    requires { ⌜ Readable notation width (now src) × (place < width) ⌝ }
+    ensures { λ r. ⌜ r ≡ getD (symbolsFrom notation width (now (src .entry))) place 0 ⌝ }
 {
     match notation {
         Notation::Packed(states) => {
@@ -60,10 +61,10 @@ pub fn pack(
     width: u32,
     states: States,
 ) -> usize
-    requires { ⌜ Noted notation width (now src) ⌝ }
-    requires { ⌜ (allSymbols (noted notation width (now src)) ≡ true) × (classOfAll (noted notation width (now src)) ≤ classNumber states) ⌝ }
+    requires { ⌜ Readable notation width (now src) ⌝ }
+    requires { ⌜ (allSymbols (symbolsFrom notation width (now src)) ≡ true) × (classOfAll (symbolsFrom notation width (now src)) ≤ classNumber states) ⌝ }
     requires { ⌜ at + packedLength width (classNumber states) ≤ length (now out) ⌝ }
-    ensures { λ r. ⌜ (r ≡ at + packedLength width (classNumber states)) × (now (out .exit) ≡ sets (now (out .entry)) at (packed (classNumber states) (noted notation width (now (src .entry))))) ⌝ }
+    ensures { λ r. ⌜ (r ≡ at + packedLength width (classNumber states)) × (now (out .exit) ≡ sets (now (out .entry)) at (packed (classNumber states) (symbolsFrom notation width (now (src .entry))))) ⌝ }
 {
     let bits = states.bits();
     let mut o = at;

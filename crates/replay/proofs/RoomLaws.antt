@@ -5,7 +5,7 @@ use mathlib.Core.Path.{_≡_, refl, sym, ap, _∙_}
 use native.Mathlib.Omega.{arith}
 use lib.ListN.{length}
 use Rattle.signal.specs.Kind.{widthOf}
-use Rattle.signal.specs.Content.{Given, FitGiven, real, bits, decode}
+use Rattle.signal.specs.Content.{Given, GivenFits, real, bits, decode}
 use Rattle.signal.specs.declared.kind.SignalEncoding.{SignalEncoding}
 use Rattle.signal.specs.declared.kind.SignalEncoding.the-variants.{Real}
 use Rattle.signal.specs.declared.decode.ChangeValue.{ChangeValue}
@@ -13,7 +13,7 @@ use Rattle.stream.specs.Stream.{changeBytes}
 use Rattle.stream.specs.Answer.{Says, saidBytes, changeLength}
 use Rattle.stream.proofs.SaysLaws.{says-length}
 
-pub room : (k : SignalEncoding) (d : ℕ) (g : Given) (v : ChangeValue) (w l n : ℕ) → FitGiven g → Says k g v → w ≡ widthOf k → l ≡ changeLength w d v
+pub room : (k : SignalEncoding) (d : ℕ) (g : Given) (v : ChangeValue) (w l n : ℕ) → GivenFits g → Says k g v → w ≡ widthOf k → l ≡ changeLength w d v
     → l ≤ n → 0 + length (saidBytes k d g) ≤ n
 room k d g v w l n f s e m h =
     let q : length (saidBytes k d g) ≡ l = says-length k d g v f s ∙ ap (λ (w : ℕ). changeLength w d v) (sym e) ∙ sym m in

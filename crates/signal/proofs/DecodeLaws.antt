@@ -26,7 +26,7 @@ use Rattle.vcd.proofs.VcdLaws.{vcd-length, vcd-symbols}
 use Rattle.packed.specs.Raw.{rawSymbols}
 use Rattle.packed.proofs.RawSaid.{raw-said, raw-length}
 use Rattle.signal.specs.Kind.{topLimit}
-use Rattle.signal.specs.Content.{Content, happened, symbols, bits, symbolsOf, ContentFits, Given, vcd, raw, real, FitGiven, Decoded, refuse, accept, vectorSays, eventSays, decode}
+use Rattle.signal.specs.Content.{Content, happened, symbols, bits, symbolsOf, ContentFits, Given, vcd, raw, real, GivenFits, Decoded, refuse, accept, vectorSays, eventSays, decode}
 use Rattle.signal.specs.Answer.{decodedAs, vectorAnswer}
 
 -- symbols of a width, where there are any
@@ -124,7 +124,7 @@ real-accepted b a c h e = let p : bits b ≡ a = cc in let q : 0 ≡ c = cc in r
 never : {A : Type 0} (n : ℕ) (a : Content) (c : ℕ) → refuse n ≡ accept a c → A
 never n a c e = let z : _≡_ {A = ℕ} 0 1 = cc in absurd (omega arith)
 
-pub accepted : (k : SignalEncoding) (g : Given) (a : Content) (c : ℕ) → FitGiven g → decode k g ≡ accept a c → Accepted k a c
+pub accepted : (k : SignalEncoding) (g : Given) (a : Content) (c : ℕ) → GivenFits g → decode k g ≡ accept a c → Accepted k a c
 unfolding decode
 accepted (BitVector zero) (vcd v) a c f e = event-accepted v a c e
 accepted (BitVector (suc w)) (vcd v) a c f e =

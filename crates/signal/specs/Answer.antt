@@ -12,16 +12,18 @@ use Rattle.signal.specs.declared.decode.ChangeValue.{ChangeValue}
 use Rattle.signal.specs.declared.decode.ChangeValue.the-variants as value
 use Rattle.signal.specs.declared.decode.DecodedChange.{DecodedChange}
 use Rattle.signal.specs.declared.decode.DecodedChange.the-variants.{Change, Refused}
-use Rattle.signal.specs.Content.{Content, symbolsOf, bitsOf, Decoded, refuse, accept}
+use Rattle.signal.specs.Content.{Content, symbolsOf, realBits, Decoded, refuse, accept}
 
+-- a vector's value by its width
 abbrev pub vectorValue : ℕ → List ℕ → ChangeValue
 vectorValue zero s = value.Event
 vectorValue (suc zero) s = value.SingleBit (record { 0 = getD s 0 0 })
 vectorValue (suc (suc w)) s = value.MultiBit (statesOf (classOfAll s))
 
+-- a content to a kind
 abbrev pub valueOf : SignalEncoding → Content → ChangeValue
 valueOf (kind.BitVector w) c = vectorValue w (symbolsOf c)
-valueOf kind.Real c = value.Real (bitsOf c)
+valueOf kind.Real c = value.Real (realBits c)
 valueOf kind.Absent c = value.Event
 
 -- the answer of decoding

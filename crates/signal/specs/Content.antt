@@ -1,4 +1,5 @@
--- Document 01, 'Symbol and value' and 'Turned back': what a change call gives, and what it says to a signal of a kind.
+-- Document 01, 'Stream of one signal', 'History' (content) and 'Turned back' (4, 5, 6): what a change call gives, and what it says to a
+-- signal of a kind.
 -- Assumes nothing.
 use Prim.Native.Nat.{ℕ, zero, suc, _<_, _^_, max}
 use mathlib.Core.Path.{_≡_}
@@ -25,10 +26,10 @@ symbolsOf happened = []
 symbolsOf (symbols s) = s
 symbolsOf (bits b) = []
 
-abbrev pub bitsOf : Content → ℕ
-bitsOf happened = 0
-bitsOf (symbols s) = 0
-bitsOf (bits b) = b
+abbrev pub realBits : Content → ℕ
+realBits happened = 0
+realBits (symbols s) = 0
+realBits (bits b) = b
 
 -- what a signal of a kind can hold
 abbrev pub ContentFits : SignalEncoding → Content → Type 0
@@ -50,10 +51,10 @@ pub data Given : Type 0 where
   real : ℕ → Given
 
 -- what a caller can give
-abbrev pub FitGiven : Given → Type 0
-FitGiven (vcd v) = Unit {0}
-FitGiven (raw c v) = Unit {0}
-FitGiven (real b) = b < 2 ^ 64
+abbrev pub GivenFits : Given → Type 0
+GivenFits (vcd v) = Unit {0}
+GivenFits (raw c v) = Unit {0}
+GivenFits (real b) = b < 2 ^ 64
 
 -- a refusal's number; or a content, with the class that the top class rises to
 pub data Decoded : Type 0 where
@@ -73,7 +74,7 @@ vectorSays (some s) c = accept (symbols s) (max (classOfAll s) c)
 abbrev pub eventSays : List ℕ → Decoded
 eventSays v = pick (leb (length v) 1) (accept happened 0) (refuse 6)
 
--- 4: absent. 5: VCD on reals, raw on anything but width 1 and more, a real on vectors or events
+-- what was given says to a kind. 4: absent. 5: VCD on reals, raw on anything but width 1 and more, a real on vectors or events. 6: a bad value
 unfoldable pub decode : SignalEncoding → Given → Decoded
 decode (BitVector zero) (vcd v) = eventSays v
 decode (BitVector (suc w)) (vcd v) = vectorSays (vcdSymbols (suc w) v) 0

@@ -51,6 +51,7 @@ fn decoded(change: BitVecChange, claim: States) -> DecodedChange
     }
 }
 
+// What a VCD value says to a signal of a kind.
 pub fn decode_vcd(kind: SignalEncoding, value: &[u8]) -> DecodedChange
     ensures { λ r. ⌜ r ≡ decodedAs kind (decode kind (vcd (now (value .entry)))) ⌝ }
 {
@@ -66,6 +67,7 @@ pub fn decode_vcd(kind: SignalEncoding, value: &[u8]) -> DecodedChange
     }
 }
 
+// What a raw value says that claims a class.
 pub fn decode_raw(kind: SignalEncoding, claim: u32, value: &[u8]) -> DecodedChange
     ensures { λ r. ⌜ r ≡ decodedAs kind (decode kind (raw claim (now (value .entry)))) ⌝ }
 {
@@ -85,6 +87,7 @@ pub fn decode_raw(kind: SignalEncoding, claim: u32, value: &[u8]) -> DecodedChan
     }
 }
 
+// What a real's bits say.
 pub fn decode_real(kind: SignalEncoding, bits: u64) -> DecodedChange
     ensures { λ r. ⌜ r ≡ decodedAs kind (decode kind (real bits)) ⌝ }
 {

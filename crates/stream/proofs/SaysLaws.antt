@@ -21,7 +21,7 @@ use Rattle.vcd.proofs.VcdLaws.{vcd-symbols}
 use Rattle.packed.specs.Packed.{packedLength, unpacked}
 use Rattle.packed.specs.Raw.{rawSymbols, lastOf}
 use Rattle.packed.proofs.RawSaid.{raw-said, RawSaid}
-use Rattle.packer.specs.Notation.{noted, Noted}
+use Rattle.packer.specs.Notation.{symbolsFrom, Readable}
 use Rattle.packer.specs.declared.Notation.{Notation}
 use Rattle.packer.specs.declared.Notation.the-variants.{Ascii, Packed}
 use Rattle.signal.specs.declared.kind.SignalEncoding.{SignalEncoding}
@@ -31,7 +31,7 @@ use Rattle.signal.specs.declared.decode.ChangeValue.the-variants as value
 use Rattle.signal.specs.declared.decode.DecodedChange.{DecodedChange}
 use Rattle.signal.specs.declared.decode.DecodedChange.the-variants.{Change, Refused}
 use Rattle.signal.specs.Kind.{widthOf}
-use Rattle.signal.specs.Content.{Content, happened, symbols, bits, ContentFits, Given, vcd, raw, real, FitGiven, Decoded, refuse, accept, contentOf, vectorSays, eventSays, decode}
+use Rattle.signal.specs.Content.{Content, happened, symbols, bits, ContentFits, Given, vcd, raw, real, GivenFits, Decoded, refuse, accept, contentOf, vectorSays, eventSays, decode}
 use Rattle.signal.specs.Answer.{valueOf, decodedAs}
 use Rattle.signal.proofs.DecodeLaws.{OneBit, one-bit, ManyBits, many-bits, no-event, no-real, vcd-wide, raw-wide, accepted}
 use Rattle.stream.specs.Stream.{changeBytes}
@@ -42,7 +42,7 @@ refused : {A : Type 0} (n : ℕ) (v : ChangeValue) (t : States) → Refused n �
 refused n v t e = let z : _≡_ {A = ℕ} 0 1 = cc in absurd (omega arith)
 
 -- the length of what was given, known from the answer
-pub says-length : (k : SignalEncoding) (d : ℕ) (g : Given) (v : ChangeValue) → FitGiven g → Says k g v
+pub says-length : (k : SignalEncoding) (d : ℕ) (g : Given) (v : ChangeValue) → GivenFits g → Says k g v
     → length (saidBytes k d g) ≡ changeLength (widthOf k) d v
 says-length k d g v f (t, e) = by (decode k g) refl e
   where
@@ -109,10 +109,10 @@ says-bit Absent d (real n) b (t, e) = refused 4 (value.SingleBit b) t e
 -- the symbols of a wider vector stand in the bytes src
 pub record VectorSaid (k : SignalEncoding) (d : ℕ) (g : Given) (x : States) (n : Notation) (w : ℕ) (src : List ℕ) : Type 0 where
   pub width : 1 < w
-  pub there : Noted n w src
-  pub all : allSymbols (noted n w src) ≡ true
-  pub class : classOfAll (noted n w src) ≡ classNumber x
-  pub bytes : saidBytes k d g ≡ changeBytes (BitVector w) d (symbols (noted n w src))
+  pub there : Readable n w src
+  pub all : allSymbols (symbolsFrom n w src) ≡ true
+  pub class : classOfAll (symbolsFrom n w src) ≡ classNumber x
+  pub bytes : saidBytes k d g ≡ changeBytes (BitVector w) d (symbols (symbolsFrom n w src))
 
 pub says-text : (k : SignalEncoding) (d : ℕ) (l : List ℕ) (x : States) → Says k (vcd l) (value.MultiBit x) → VectorSaid k d (vcd l) x Ascii (widthOf k) (textOf l)
 unfolding decode

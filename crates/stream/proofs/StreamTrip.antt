@@ -29,7 +29,7 @@ use Rattle.packed.specs.Packed.{packed, unpacked, packedLength, topClear}
 use Rattle.packed.proofs.PackedLaws.{length-packed, length-unpacked, unpacked-packed, packed-top, packed-unpacked}
 use Rattle.signal.specs.declared.kind.SignalEncoding.{SignalEncoding}
 use Rattle.signal.specs.declared.kind.SignalEncoding.the-variants.{BitVector, Real, Absent}
-use Rattle.signal.specs.Content.{Content, happened, symbols, bits, symbolsOf, bitsOf, ContentFits}
+use Rattle.signal.specs.Content.{Content, happened, symbols, bits, symbolsOf, realBits, ContentFits}
 use Rattle.stream.specs.Stream.{Change, change, ChangeFits, maxDelta, changeBytes, found, bitAfter, ownClass, wideAfter, vectorAfter, valueAfter, afterNumber, readChange}
 
 -- a number is read, and its value from the bytes after it
@@ -83,33 +83,33 @@ first-symbol [] a = omega arith
 first-symbol (x ∷ s) a = leb-true x 8 (both-hold (leb x 8) (allSymbols s) a .0)
 
 -- what is written is read back, whatever stands after it
-pub there : (k : SignalEncoding) (d : ℕ) (c : Content) (r : List ℕ) → d ≤ maxDelta → ContentFits k c
+pub read-written : (k : SignalEncoding) (d : ℕ) (c : Content) (r : List ℕ) → d ≤ maxDelta → ContentFits k c
     → readChange k (changeBytes k d c ++ r) ≡ got (change d c) r
 unfolding changeBytes
-there (BitVector zero) d happened r h f =
+read-written (BitVector zero) d happened r h f =
     number-there (BitVector zero) d r (omega arith) ∙ unfold valueAfter in found-there d happened r h
-there (BitVector zero) d (symbols s) r h f = absurd f
-there (BitVector zero) d (bits b) r h f = absurd f
-there (BitVector (suc w)) d happened r h f = absurd f
-there (BitVector (suc zero)) d (symbols s) r h f =
+read-written (BitVector zero) d (symbols s) r h f = absurd f
+read-written (BitVector zero) d (bits b) r h f = absurd f
+read-written (BitVector (suc w)) d happened r h f = absurd f
+read-written (BitVector (suc zero)) d (symbols s) r h f =
     let x = first-symbol s (f .1) in
     number-there (BitVector (suc zero)) (d * 16 + getD s 0 0) r (omega arith)
     ∙ unfold valueAfter in bit-there d (getD s 0 0) r h x
     ∙ ap (λ (l : List ℕ). got (change d (symbols l)) r) (sym (one-element s (f .0)))
-there (BitVector (suc (suc w))) d (symbols s) r h f =
+read-written (BitVector (suc (suc w))) d (symbols s) r h f =
     let small = class-all-small s in
     ap (readChange (BitVector (suc (suc w)))) (append-assoc (lebOf (d * 4 + classOfAll s)) (packed (classOfAll s) s) r)
     ∙ number-there (BitVector (suc (suc w))) (d * 4 + classOfAll s) (packed (classOfAll s) s ++ r) (omega arith)
     ∙ unfold valueAfter in wide-there (suc (suc w)) d s r (f .0) (f .1) h
-there (BitVector (suc w)) d (bits b) r h f = absurd f
-there Real d happened r h f = absurd f
-there Real d (symbols s) r h f = absurd f
-there Real d (bits b) r h f =
+read-written (BitVector (suc w)) d (bits b) r h f = absurd f
+read-written Real d happened r h f = absurd f
+read-written Real d (symbols s) r h f = absurd f
+read-written Real d (bits b) r h f =
     ap (readChange Real) (append-assoc (lebOf d) (le 8 b) r) ∙ number-there Real d (le 8 b ++ r) (omega arith) ∙ real-there d b r h f
-there Absent d c r h f = absurd f
+read-written Absent d c r h f = absurd f
 
 -- what was read: a change that fits, and bytes that are its form
-pub record Was (k : SignalEncoding) (s : List ℕ) (x : Change) (r : List ℕ) : Type 0 where
+pub record WrittenAs (k : SignalEncoding) (s : List ℕ) (x : Change) (r : List ℕ) : Type 0 where
   pub fits : ChangeFits k x
   pub form : s ≡ changeBytes k (x .d) (x .content) ++ r
 
@@ -131,19 +131,19 @@ by-found {A} d c t {x} {r} e f = by-test (leb d maxDelta) (got (change d c) t) e
 
 -- a change read after its number v, before the bytes t
 Back : SignalEncoding → (v : ℕ) → List ℕ → Change → List ℕ → Type 0
-Back k v t x r = Was k (lebOf v ++ t) x r
+Back k v t x r = WrittenAs k (lebOf v ++ t) x r
 
 event-back : (v : ℕ) (t : List ℕ) (x : Change) (r : List ℕ) → found v happened t ≡ got x r → Back (BitVector zero) v t x r
 unfolding Back
 event-back v t x r e = by-found v happened t e (λ h p q.
-    subst (λ (y : Change). Was (BitVector zero) (lebOf v ++ t) y r) p
+    subst (λ (y : Change). WrittenAs (BitVector zero) (lebOf v ++ t) y r) p
     (record { fits = record { small = h; fits = tt }; form = unfold changeBytes in ap (λ (l : List ℕ). lebOf v ++ l) q }))
 
 bit-back : (v : ℕ) (t : List ℕ) (x : Change) (r : List ℕ) → bitAfter v t ≡ got x r → Back (BitVector (suc zero)) v t x r
 unfolding Back allSymbols
 bit-back v t x r e = by-test (leb (v % 16) 8) (found (v / 16) (symbols (v % 16 ∷ [])) t) e (λ l g.
     by-found (v / 16) (symbols (v % 16 ∷ [])) t g (λ h p q.
-    subst (λ (y : Change). Was (BitVector (suc zero)) (lebOf v ++ t) y r) p
+    subst (λ (y : Change). WrittenAs (BitVector (suc zero)) (lebOf v ++ t) y r) p
     (record {
       fits = record { small = h; fits = (refl, rw l refl) };
       form = unfold changeBytes in ap₂ (λ (n : ℕ) (l : List ℕ). lebOf n ++ l) (number v) q;
@@ -177,7 +177,7 @@ wide-back w v t x r y e =
     let room = both-hold (leb n (length t)) (ownClass u (v % 4) b) l in
     let own = both-hold (topClear u (v % 4) b) (allSymbols s && eqb (classOfAll s) (v % 4)) (room .1) in
     let all = both-hold (allSymbols s) (eqb (classOfAll s) (v % 4)) (own .1) in
-    subst (λ (z : Change). Was (BitVector u) (lebOf v ++ t) z r) p
+    subst (λ (z : Change). WrittenAs (BitVector u) (lebOf v ++ t) z r) p
     (record {
       fits = record { small = h; fits = (length-unpacked u (v % 4) b, all .0) };
       form =
@@ -191,7 +191,7 @@ real-back v t x r y e = by-test (leb 8 (length t)) (found v (bits (unle (take 8 
     by-found v (bits (unle (take 8 t))) (drop 8 t) g (λ h p q.
     let n : length (take 8 t) ≡ 8 = length-take-le 8 t (leb-true 8 (length t) l) in
     let same : le 8 (unle (take 8 t)) ≡ take 8 t = subst (λ (m : ℕ). le m (unle (take 8 t)) ≡ take 8 t) n (le-unle (take 8 t) (take-bytes 8 t y)) in
-    subst (λ (z : Change). Was Real (lebOf v ++ t) z r) p
+    subst (λ (z : Change). WrittenAs Real (lebOf v ++ t) z r) p
     (record {
       fits = record { small = h; fits = unle-lt 8 t y };
       form =
@@ -207,14 +207,14 @@ value-back Real v t x r y e = real-back v t x r y e
 value-back Absent v t x r y e = nothing e
 
 -- what is read was written so
-pub back : (k : SignalEncoding) (s : List ℕ) (x : Change) (r : List ℕ) → Bytes s → readChange k s ≡ got x r → Was k s x r
+pub written-read : (k : SignalEncoding) (s : List ℕ) (x : Change) (r : List ℕ) → Bytes s → readChange k s ≡ got x r → WrittenAs k s x r
 unfolding readChange Back
-back k s x r y e = by (readLeb 5 0 s) refl e
+written-read k s x r y e = by (readLeb 5 0 s) refl e
   where
-    by : (l : Leb128) → readLeb 5 0 s ≡ l → afterNumber k s l ≡ got x r → Was k s x r
+    by : (l : Leb128) → readLeb 5 0 s ≡ l → afterNumber k s l ≡ got x r → WrittenAs k s x r
     by (Value v n) q e =
         let w : Written 0 v n s = read-is 5 0 v n s y q in
         let past : n ≡ length (lebOf v) = w .past ∙ zero-add (length (lebOf v)) in
-        subst (λ (l : List ℕ). Was k l x r) (sym (w .form ∙ ap (λ (m : ℕ). lebOf v ++ drop m s) (sym past)))
+        subst (λ (l : List ℕ). WrittenAs k l x r) (sym (w .form ∙ ap (λ (m : ℕ). lebOf v ++ drop m s) (sym past)))
         (value-back k v (drop n s) x r (drop-bytes n s y) e)
     by Bad q e = nothing e

@@ -15,9 +15,9 @@ use Rattle.value.specs.declared.states.States.{States}
 use Rattle.value.specs.declared.states.States.the-variants.{Two, Four, Nine}
 use Rattle.packed.specs.Packed.{packed, packedLength}
 use Rattle.packed.proofs.PackedLaws.{length-packed}
-use Rattle.packer.specs.Notation.{noted, Noted}
+use Rattle.packer.specs.Notation.{symbolsFrom, Readable}
 use Rattle.packer.specs.declared.Notation.{Notation}
-use Rattle.packer.proofs.NotedLaws.{length-noted}
+use Rattle.packer.proofs.NotationLaws.{length-from}
 use Rattle.signal.specs.Content.{symbols, bits}
 use Rattle.signal.specs.declared.kind.SignalEncoding.the-variants.{BitVector, Real}
 use Rattle.stream.specs.Stream.{changeBytes}
@@ -57,7 +57,7 @@ pub room-back : (a b old mid : List ℕ) (at p m : ℕ) → at + length (a ++ b)
 room-back a b old mid at p m h e f g = omega (arith, length-append a b, length-sets old at a, ap length f)
 
 -- the size of a vector's symbols, packed in their class
-pub sized : (n : Notation) (w : ℕ) (b : List ℕ) (x : States) → Noted n w b → classOfAll (noted n w b) ≡ classNumber x
-    → packedLength w (classNumber x) ≡ length (packed (classOfAll (noted n w b)) (noted n w b))
+pub sized : (n : Notation) (w : ℕ) (b : List ℕ) (x : States) → Readable n w b → classOfAll (symbolsFrom n w b) ≡ classNumber x
+    → packedLength w (classNumber x) ≡ length (packed (classOfAll (symbolsFrom n w b)) (symbolsFrom n w b))
 sized n w b x h e =
-    sym (length-packed (classOfAll (noted n w b)) (noted n w b) ∙ ap₂ packedLength (length-noted n w b h) e)
+    sym (length-packed (classOfAll (symbolsFrom n w b)) (symbolsFrom n w b) ∙ ap₂ packedLength (length-from n w b h) e)

@@ -18,7 +18,7 @@ use Rattle.value.specs.Class.{classOfAll, allSymbols}
 use Rattle.packed.specs.Packed.{packed, unpacked, packedLength, topClear}
 use Rattle.signal.specs.declared.kind.SignalEncoding.{SignalEncoding}
 use Rattle.signal.specs.declared.kind.SignalEncoding.the-variants.{BitVector, Real, Absent}
-use Rattle.signal.specs.Content.{Content, happened, symbols, bits, symbolsOf, bitsOf, ContentFits}
+use Rattle.signal.specs.Content.{Content, happened, symbols, bits, symbolsOf, realBits, ContentFits}
 
 -- event: d. Width 1: d × 16 + symbol. Wider: d × 4 + class, then the value packed in its own class
 abbrev pub vectorBytes : (width d : ℕ) → List ℕ → List ℕ
@@ -29,7 +29,7 @@ vectorBytes (suc (suc w)) d s = lebOf (d * 4 + classOfAll s) ++ packed (classOfA
 -- real: d, then the eight bytes of the f64
 unfoldable pub changeBytes : SignalEncoding → (d : ℕ) → Content → List ℕ
 changeBytes (BitVector w) d c = vectorBytes w d (symbolsOf c)
-changeBytes Real d c = lebOf d ++ le 8 (bitsOf c)
+changeBytes Real d c = lebOf d ++ le 8 (realBits c)
 changeBytes Absent d c = []
 
 -- a change in a stream
@@ -59,6 +59,7 @@ bitAfter v r = pick (leb (v % 16) 8) (found (v / 16) (symbols (v % 16 ∷ [])) r
 abbrev pub ownClass : (width class : ℕ) → List ℕ → Bool
 ownClass w c b = topClear w c b && (allSymbols (unpacked w c b) && eqb (classOfAll (unpacked w c b)) c)
 
+-- class bits 3 are refused, since no value is of that class
 abbrev pub wideAfter : (width v : ℕ) → List ℕ → Got Change
 wideAfter w v r =
     let n = packedLength w (v % 4) in

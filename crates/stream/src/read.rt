@@ -19,7 +19,8 @@ ghost use Rattle.stream.specs.Stream.{ownClass, wideAfter, valueAfter};
 ghost use Rattle.stream.specs.Answer.{readAs, changeAt, answered, bitAnswered};
 ghost use Rattle.signal.specs.declared.kind.SignalEncoding.the-variants.{BitVector, Real};
 
-// The index less the one before, the value and the place after it. A wider vector's packed bytes end at that place.
+// The index less the one before, the value and the place after the change. A change's bytes are its number and then its value
+// (proofs/StreamTrip.antt: written-read), so a wider vector's packed bytes end at that place.
 pub enum ReadChange {
     Change(u32, ChangeValue, usize),
     Bad,

@@ -18,7 +18,7 @@ ghost use Prim.Native.Nat.{_+_, _≤_, _<_};
 ghost use lib.ListN.{length};
 ghost use lib.Seq.{sets};
 ghost use Rattle.value.specs.Class.{classNumber, classOfAll, allSymbols};
-ghost use Rattle.packer.specs.Notation.{noted, Noted};
+ghost use Rattle.packer.specs.Notation.{symbolsFrom, Readable};
 ghost use Rattle.signal.specs.Content.{symbols, bits, vcd, raw};
 ghost use Rattle.signal.specs.declared.kind.SignalEncoding.the-variants.{BitVector, Real};
 ghost use Rattle.stream.specs.Stream.{changeBytes, maxDelta};
@@ -81,10 +81,10 @@ fn put_vector(
     width: u32,
     states: States,
 ) -> usize
-    requires { ⌜ (d ≤ maxDelta) × (1 < width) × Noted notation width (now src) ⌝ }
-    requires { ⌜ (allSymbols (noted notation width (now src)) ≡ true) × (classOfAll (noted notation width (now src)) ≡ classNumber states) ⌝ }
-    requires { ⌜ at + length (changeBytes (BitVector width) d (symbols (noted notation width (now src)))) ≤ length (now out) ⌝ }
-    ensures { λ r. ⌜ (r ≡ at + length (changeBytes (BitVector width) d (symbols (noted notation width (now (src .entry)))))) × (now (out .exit) ≡ sets (now (out .entry)) at (changeBytes (BitVector width) d (symbols (noted notation width (now (src .entry)))))) ⌝ }
+    requires { ⌜ (d ≤ maxDelta) × (1 < width) × Readable notation width (now src) ⌝ }
+    requires { ⌜ (allSymbols (symbolsFrom notation width (now src)) ≡ true) × (classOfAll (symbolsFrom notation width (now src)) ≡ classNumber states) ⌝ }
+    requires { ⌜ at + length (changeBytes (BitVector width) d (symbols (symbolsFrom notation width (now src)))) ≤ length (now out) ⌝ }
+    ensures { λ r. ⌜ (r ≡ at + length (changeBytes (BitVector width) d (symbols (symbolsFrom notation width (now (src .entry)))))) × (now (out .exit) ≡ sets (now (out .entry)) at (changeBytes (BitVector width) d (symbols (symbolsFrom notation width (now (src .entry)))))) ⌝ }
 {
     let next = put_leb128(out, at, d * 4 + wide(states.number()));
     pack(out, next, src, notation, width, states)

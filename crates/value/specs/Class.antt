@@ -16,6 +16,7 @@ classNumber Two = 0
 classNumber Four = 1
 classNumber Nine = 2
 
+-- the enum of a class's number; numbers above 2 do not occur
 abbrev pub statesOf : ℕ → States
 statesOf zero = Two
 statesOf (suc zero) = Four
@@ -41,10 +42,11 @@ unfoldable pub allSymbols : List ℕ → Bool
 allSymbols [] = true
 allSymbols (s ∷ l) = leb s 8 && allSymbols l
 
--- the class of a value, none where a number above 8 is no symbol
+-- the class of a value, none if a number is above 8
 unfoldable pub minStates : List ℕ → MaybeStates
 minStates s = pick (allSymbols s) (Some (statesOf (classOfAll s))) None
 
+-- the largest symbol, by which the code finds the class (proofs/ClassLaws: class-largest)
 unfoldable pub largestOf : List ℕ → ℕ
 largestOf [] = 0
 largestOf (s ∷ l) = max s (largestOf l)

@@ -28,6 +28,7 @@ fn real_of(bits: u64) -> f64
     f64::from_bits(bits)
 }
 
+// A real as an entry. Of a NaN's pattern the f64 is a NaN whose payload is not promised; the bits are exact.
 pub fn real_entry(bits: u64) -> Entry
     ensures { λ r. ⌜ r ≡ realEntry bits ⌝ }
 {

@@ -82,9 +82,6 @@ module _ (w : ℕ) (s : List ℕ) (fits : length s ≤ w) where
       (λ e. whole (eqb-true (length s) w e))
       (λ e. where-bind (Extended w s) (fillOf x) _ (λ y f. filled y (where-some (Fill x) (fillOf x) (fill-is x) f)))
 
-  pub extended-of : {e : List ℕ} → extended w s ≡ some e → Extended w s e
-  extended-of = where-some (Extended w s) (extended w s) extended-is
-
 -- which symbols can be extended
 pub extended-some : (w : ℕ) (s : List ℕ) → isSome (extended w s) ≡ eqb (length s) w || ltb (getD s 0 0) 4
 unfolding extended

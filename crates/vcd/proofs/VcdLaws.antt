@@ -101,15 +101,6 @@ text-good w u = by (textSymbols w u) (text-is w u)
     by none h e = absurd (let z : _≡_ {A = ℕ} 0 1 = cc in omega arith)
     by (some s) h e = h
 
-pub text-length : (w : ℕ) (u : List ℕ) {s : List ℕ} → textSymbols w u ≡ some s → length s ≡ w
-text-length w u e = text-of w u e .size
-
-pub text-symbols : (w : ℕ) (u : List ℕ) {s : List ℕ} → textSymbols w u ≡ some s → allSymbols s ≡ true
-text-symbols w u e = text-of w u e .all
-
-pub text-class : (w : ℕ) (u : List ℕ) {s : List ℕ} → textSymbols w u ≡ some s → asciiStates (symbolsIn u) ≡ Some (statesOf (classOfAll s))
-text-class w u e = text-of w u e .class
-
 -- which texts are good
 pub text-empty : (w : ℕ) (u : List ℕ) → length u ≡ 0 → textSymbols w u ≡ none
 unfolding textSymbols

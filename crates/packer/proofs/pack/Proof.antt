@@ -10,9 +10,9 @@ use lib.Seq.{sets}
 use Rattle.value.specs.Class.{classNumber, bitsOf}
 use Rattle.packed.specs.Packed.{packedLength, packed}
 use Rattle.packed.proofs.PackedLaws.{symbols-below}
-use Rattle.packer.specs.Notation.{noted}
+use Rattle.packer.specs.Notation.{symbolsFrom}
 use Rattle.packer.proofs.PackLaws.{Fits, toCome, come-first, come-last, fits-first, fits-byte, FullTurn, full-turn, PartTurn, part-turn, no-bytes}
-use Rattle.packer.proofs.NotedLaws.{length-noted}
+use Rattle.packer.proofs.NotationLaws.{length-from}
 use Rattle.packer.proofs.pack.Statement.{statement}
 use Rattle.packer.proofs.pack.Tie as tie
 
@@ -21,8 +21,8 @@ Inv-loop out₀ at src notation width states bits o₀ working₀ left₀ out o 
     (left ≤ width)
     × (length out ≡ length out₀)
     × (o + packedLength left (classNumber states) ≡ at + packedLength width (classNumber states))
-    × Fits (classNumber states) working (drop (width - left) (noted notation width src))
-    × (sets out o (toCome (classNumber states) working (drop (width - left) (noted notation width src))) ≡ sets out₀ at (packed (classNumber states) (noted notation width src)))
+    × Fits (classNumber states) working (drop (width - left) (symbolsFrom notation width src))
+    × (sets out o (toCome (classNumber states) working (drop (width - left) (symbolsFrom notation width src))) ≡ sets out₀ at (packed (classNumber states) (symbolsFrom notation width src)))
 
 abbrev μ-loop : tie.MeasureT-loop
 μ-loop out₀ at src notation width states bits o₀ working₀ left₀ out o working left = left
@@ -30,34 +30,34 @@ abbrev μ-loop : tie.MeasureT-loop
 -- the working bits after a symbol
 next : (c : tie.After-pushed Inv-loop μ-loop) →
     let b = c .before .before .before in let a = b .before .before .before .before .args in
-    c .pushed .result ≡ b .loop .working * 2 ^ bitsOf (classNumber (a .states)) + getD (noted (a .notation) (a .width) (a .src .now)) (a .width - b .loop .left) 0
+    c .pushed .result ≡ b .loop .working * 2 ^ bitsOf (classNumber (a .states)) + getD (symbolsFrom (a .notation) (a .width) (a .src .now)) (a .width - b .loop .left) 0
 next c = c .pushed .ensures ∙ rw (c .before .symbol-at .ensures) refl
 
 -- a turn that fills a byte, and one that does not
 full : (c : tie.Then1 Inv-loop μ-loop) →
     let b = c .before .before .before .before in let l = b .loop in let a = b .before .before .before .before .args in
-    FullTurn (classNumber (a .states)) (noted (a .notation) (a .width) (a .src .now)) (a .width) (l .left) (l .working) (c .before .pushed .result)
+    FullTurn (classNumber (a .states)) (symbolsFrom (a .notation) (a .width) (a .src .now)) (a .width) (l .left) (l .working) (c .before .pushed .result)
 full c =
     let b = c .before .before .before .before in
     let p = b .before .before .before .before in
     let a = p .args in
     let k : ℕ = classNumber (a .states) in
-    let s : List ℕ = noted (a .notation) (a .width) (a .src .now) in
+    let s : List ℕ = symbolsFrom (a .notation) (a .width) (a .src .now) in
     full-turn k s (a .width) (b .loop .left) (b .loop .working) (c .before .pushed .result)
-    (length-noted (a .notation) (a .width) (a .src .now) (p .pre .0)) (omega arith) (omega arith) (next (c .before))
+    (length-from (a .notation) (a .width) (a .src .now) (p .pre .0)) (omega arith) (omega arith) (next (c .before))
     (symbols-below k s (p .pre .1 .0 .0) (p .pre .1 .0 .1)) (rw (b .before .bits .ensures .0) at (c .if1 .taken)) (b .loop .inv .3)
 
 part : (c : tie.Else1 Inv-loop μ-loop) →
     let b = c .before .before .before .before in let l = b .loop in let a = b .before .before .before .before .args in
-    PartTurn (classNumber (a .states)) (noted (a .notation) (a .width) (a .src .now)) (a .width) (l .left) (l .working) (c .before .pushed .result)
+    PartTurn (classNumber (a .states)) (symbolsFrom (a .notation) (a .width) (a .src .now)) (a .width) (l .left) (l .working) (c .before .pushed .result)
 part c =
     let b = c .before .before .before .before in
     let p = b .before .before .before .before in
     let a = p .args in
     let k : ℕ = classNumber (a .states) in
-    let s : List ℕ = noted (a .notation) (a .width) (a .src .now) in
+    let s : List ℕ = symbolsFrom (a .notation) (a .width) (a .src .now) in
     part-turn k s (a .width) (b .loop .left) (b .loop .working) (c .before .pushed .result)
-    (length-noted (a .notation) (a .width) (a .src .now) (p .pre .0)) (omega arith) (omega arith) (next (c .before))
+    (length-from (a .notation) (a .width) (a .src .now) (p .pre .0)) (omega arith) (omega arith) (next (c .before))
     (λ e. c .if1 .left (rw (b .before .bits .ensures .0) e)) (b .loop .inv .3)
 
 bits-requires : tie.Need-bits-requires Inv-loop μ-loop
@@ -68,7 +68,7 @@ loop-holds c =
     let a = c .before .before .before .args in
     let p = c .before .before .before .pre in
     let k : ℕ = classNumber (a .states) in
-    let s : List ℕ = noted (a .notation) (a .width) (a .src .now) in
+    let s : List ℕ = symbolsFrom (a .notation) (a .width) (a .src .now) in
     let none : a .width - a .width ≡ 0 = omega arith in
     (omega arith, refl, refl, rw none (fits-first k s (symbols-below k s (p .1 .0 .0) (p .1 .0 .1))), rw (none, come-first k s) refl)
 
@@ -128,9 +128,9 @@ returns c =
     let a = c .before .before .before .before .before .args in
     let p = c .before .before .before .before .before .pre in
     let k : ℕ = classNumber (a .states) in
-    let s : List ℕ = noted (a .notation) (a .width) (a .src .now) in
+    let s : List ℕ = symbolsFrom (a .notation) (a .width) (a .src .now) in
     let none : l .left ≡ 0 = omega arith in
-    let size : length s ≡ a .width = length-noted (a .notation) (a .width) (a .src .now) (p .0) in
+    let size : length s ≡ a .width = length-from (a .notation) (a .width) (a .src .now) (p .0) in
     let rest : drop (a .width - l .left) s ≡ [] = drop-of-length-le s {i = a .width - l .left} (omega arith) in
     let done : toCome k (l .working) (drop (a .width - l .left) s) ≡ [] = rw rest (come-last k (l .working)) in
     (omega (arith, l .inv .2, ap (λ (n : ℕ). packedLength n k) none, no-bytes k), rw (← (l .inv .4), done) refl)

@@ -8,7 +8,7 @@ use lib.Seq.{sets}
 use Rattle.numbers.specs.Leb128.{lebOf}
 use Rattle.value.specs.Class.{classNumber, classOfAll}
 use Rattle.packed.specs.Packed.{packed, packedLength}
-use Rattle.packer.specs.Notation.{noted}
+use Rattle.packer.specs.Notation.{symbolsFrom}
 use Rattle.stream.proofs.WriteLaws.{two-writes, room-front, room-back, wide-bytes, sized}
 use borrow.Author.Needs.{needs}
 use Rattle.stream.proofs.write.put_vector.Statement.{statement}
@@ -17,7 +17,7 @@ use Rattle.stream.proofs.write.put_vector.Tie as tie
 -- what the number's writing left, by the symbols' class
 number-then : (c : tie.After-put-leb128) →
     let p = c .before .before .before .before .before .before in let a = p .args in
-    let s = noted (a .notation) (a .width) (a .src .now) in
+    let s = symbolsFrom (a .notation) (a .width) (a .src .now) in
     (c .put-leb128 .result ≡ a .at + length (lebOf (a .d * 4 + classOfAll s)))
     × (c .put-leb128 .last .0 ≡ sets (a .out .now) (a .at) (lebOf (a .d * 4 + classOfAll s)))
 number-then c =
@@ -42,7 +42,7 @@ put-leb128-requires : tie.Need-put-leb128-requires
 put-leb128-requires c κs =
     let p = c .before .before .before .before .before in
     let a = p .args in
-    let s : List ℕ = noted (a .notation) (a .width) (a .src .now) in
+    let s : List ℕ = symbolsFrom (a .notation) (a .width) (a .src .now) in
     let x : c .wide .result ≡ classOfAll s = c .wide .ensures ∙ c .before .number .ensures ∙ sym (p .pre .1 .0 .1) in
     rw x (room-front (lebOf (a .d * 4 + classOfAll s)) (packed (classOfAll s) s) (a .at) _ (rw (wide-bytes (a .width) (a .d) s (p .pre .0 .1)) at (p .pre .1 .1)))
 
@@ -50,7 +50,7 @@ pack-requires : tie.Need-pack-requires
 pack-requires c κs =
     let p = c .before .before .before .before .before .before .before .before .before in
     let a = p .args in
-    let s : List ℕ = noted (a .notation) (a .width) (a .src .now) in
+    let s : List ℕ = symbolsFrom (a .notation) (a .width) (a .src .now) in
     let e = number-then (c .before .before .before) in
     let size : packedLength (a .width) (classNumber (a .states)) ≡ length (packed (classOfAll s) s) = sized (a .notation) (a .width) (a .src .now) (a .states) (p .pre .0 .2) (p .pre .1 .0 .1) in (
       p .pre .0 .2,
@@ -67,7 +67,7 @@ returns : tie.Need-returns
 returns c =
     let p = c .before .before .before .before .before .before .before .before .before .before .before .before in
     let a = p .args in
-    let s : List ℕ = noted (a .notation) (a .width) (a .src .now) in
+    let s : List ℕ = symbolsFrom (a .notation) (a .width) (a .src .now) in
     let e = number-then (c .before .before .before .before .before .before) in
     let f = c .before .before .pack .ensures in
     let cls = p .pre .1 .0 .1 in

@@ -8,10 +8,10 @@ use Rattle.value.specs.Class.{classNumber}
 use Rattle.vcd.specs.Vcd.{textSymbols, orEmpty}
 use Rattle.vcd.proofs.VcdLaws.{text-good}
 use Rattle.packed.proofs.PackedLaws.{length-unpacked}
-use Rattle.packer.specs.Notation.{noted, Noted}
+use Rattle.packer.specs.Notation.{symbolsFrom, Readable}
 use Rattle.packer.specs.declared.Notation.{Notation}
 use Rattle.packer.specs.declared.Notation.the-variants.{Ascii, Packed}
 
-pub length-noted : (n : Notation) (w : ℕ) (b : List ℕ) → Noted n w b → length (noted n w b) ≡ w
-length-noted Ascii w b h = text-good w b h .size
-length-noted (Packed c) w b h = length-unpacked w (classNumber c) b
+pub length-from : (n : Notation) (w : ℕ) (b : List ℕ) → Readable n w b → length (symbolsFrom n w b) ≡ w
+length-from Ascii w b h = text-good w b h .size
+length-from (Packed c) w b h = length-unpacked w (classNumber c) b

@@ -2,23 +2,29 @@
 -- Assumes nothing.
 use Prim.Native.Nat.{ℕ, suc}
 use mathlib.Core.Bool.{Bool, true, false, _&&_}
-use mathlib.Core.List.{List, [], _∷_}
+use mathlib.Core.List.{List, [], _∷_, _++_}
 use mathlib.Core.Option.{Option, some, none}
 use lib.Dec.{eqb}
 use Rattle.value.specs.Class.{classOfAll}
 use Rattle.vcd.specs.Vcd.{vcdSymbols}
 use Rattle.packed.specs.Packed.{packed}
 use Rattle.signal.specs.Content.{symbols}
+use Rattle.signal.specs.declared.kind.SignalEncoding.{SignalEncoding}
 use Rattle.signal.specs.declared.kind.SignalEncoding.the-variants.{BitVector}
 use Rattle.stream.specs.Stream.{changeBytes}
+use Rattle.image.specs.Block.{les}
+use Rattle.recording.specs.Calls.{Call, time, finish}
+use Rattle.cases.specs.Runs.{imageLeft}
 
 pub data Case : Type 0 where
   -- a VCD value on a vector says symbols
-  says : (width : ℕ) (value answer : List ℕ) → Case
+  says : (width : ℕ) (value symbols : List ℕ) → Case
   -- symbols packed in their own class
-  packs : (answer bytes : List ℕ) → Case
+  packs : (symbols bytes : List ℕ) → Case
   -- a change of a vector, d after the previous one, as stream bytes
-  writes : (width d : ℕ) (value bytes : List ℕ) → Case
+  writes : (width d : ℕ) (symbols bytes : List ℕ) → Case
+  -- calls, from a start to a finish, leave an image
+  leaves : (limit : ℕ) (kinds : List SignalEncoding) (calls : List Call) (image : List ℕ) → Case
 
 unfoldable pub same : List ℕ → List ℕ → Bool
 same [] [] = true
@@ -34,13 +40,14 @@ unfoldable pub holds : Case → Bool
 holds (says w v s) = answers (vcdSymbols w v) s
 holds (packs s b) = same (packed (classOfAll s) s) b
 holds (writes w d s b) = same (changeBytes (BitVector w) d (symbols s)) b
+holds (leaves limit ks cs b) = same (imageLeft limit ks cs) b
 
 unfoldable pub allHold : List Case → Bool
 allHold [] = true
 allHold (c ∷ l) = holds c && allHold l
 
-unfoldable pub sheet : List Case
-sheet =
+unfoldable pub starred : List Case
+starred =
     -- width 1 "" → 0; "b" → 0; "b1x" → x
     says 1 [] (0 ∷ [])
     ∷ says 1 (98 ∷ []) (0 ∷ [])
@@ -53,4 +60,7 @@ sheet =
     ∷ packs (1 ∷ 8 ∷ 2 ∷ []) (0x01 ∷ 0x82 ∷ [])
     -- width 1, d 8, symbol 1 → 81 01
     ∷ writes 1 8 (1 ∷ []) (0x81 ∷ 0x01 ∷ [])
+    -- B 2, times 1 2 3: tables 1 2 and 2 3
+    ∷ leaves 2 [] (time 1 ∷ time 2 ∷ time 3 ∷ finish ∷ [])
+    (les 4 (0 ∷ 2 ∷ 2 ∷ 72 ∷ []) ++ (les 4 (28 ∷ 2 ∷ 0 ∷ []) ++ (les 8 (1 ∷ 2 ∷ []) ++ (les 4 (28 ∷ 2 ∷ 0 ∷ []) ++ les 8 (2 ∷ 3 ∷ [])))))
     ∷ []

@@ -1,0 +1,27 @@
+-- Recordings as lists of calls, on lent memory that holds nonsense.
+-- Assumes nothing.
+use Prim.Native.Nat.{ℕ}
+use mathlib.Core.Bool.{true}
+use mathlib.Core.List.{List, [], _∷_, map}
+use lib.ListN.{length, take, replicate}
+use Rattle.value.specs.declared.states.States.the-variants.{Nine}
+use Rattle.signal.specs.declared.kind.SignalEncoding.{SignalEncoding}
+use Rattle.recording.specs.declared.SignalRecord.{SignalRecord}
+use Rattle.recording.specs.Calls.{Call}
+use Rattle.recording.specs.Memory.{Memory, memory, recordOf}
+use Rattle.recording.specs.Step.{encoder, startOf, run, Ran}
+
+-- a record as it may be before a start
+abbrev pub stale : SignalEncoding → SignalRecord
+stale k = recordOf k 7 Nine
+
+unfoldable pub lent : List SignalEncoding → (times work image : ℕ) → Memory
+lent ks t w i = memory (encoder true 9 9 9 9 9 9 true 9) (map stale ks) (replicate t 99) (replicate w 99) (replicate i 99)
+
+-- a start and calls, with room for B times, 64 work bytes and 128 image bytes
+unfoldable pub ran : (limit : ℕ) → List SignalEncoding → List Call → Ran
+ran limit ks cs = run (startOf limit (length ks) (lent ks limit 64 128) .memory) cs
+
+-- the image left: its used bytes
+unfoldable pub imageLeft : (limit : ℕ) → List SignalEncoding → List Call → List ℕ
+imageLeft limit ks cs = let r = ran limit ks cs in take (r .last .state .image) (r .last .image)

@@ -1,0 +1,129 @@
+-- Document 01, 'History': what a list of calls says. Fed are kinds, calls and, of the answers, only which are refusals; nothing of the
+-- recorder's state.
+-- Assumes nothing.
+use Prim.Native.Nat.{ℕ, _+_, _-_, max}
+use mathlib.Core.Bool.{Bool, true, false, _&&_}
+use mathlib.Core.List.{List, [], _∷_, _++_}
+use lib.ListN.{length, getD}
+use lib.Dec.{ltb, eqb}
+use Rattle.lists.specs.Choice.{pick}
+use Rattle.signal.specs.declared.kind.SignalEncoding.{SignalEncoding}
+use Rattle.signal.specs.declared.kind.SignalEncoding.the-variants.{Absent}
+use Rattle.signal.specs.Content.{Content, happened, symbols, bits, Decoded, refuse, accept, decode}
+use Rattle.recording.specs.Calls.{Call, time, change, finish, Heard, taken, same, back, recorded, skipped, silent, Way, above, equal, below, wayOf}
+
+-- a change: its signal, the place of the last time (from 0), its content, and the class that the top class rises to
+pub record Change : Type 0 where
+  pub signal : ℕ
+  pub place : ℕ
+  pub content : Content
+  pub class : ℕ
+
+-- times, changes in call order, a skip, a count
+pub record History : Type 0 where
+  pub times : List ℕ
+  pub changes : List Change
+  pub skip : Bool
+  pub count : ℕ
+
+abbrev pub history : List ℕ → List Change → Bool → ℕ → History
+history t c s n = record { times = t; changes = c; skip = s; count = n }
+
+-- at the start empty, off, 0
+abbrev pub noHistory : History
+noHistory = history [] [] false 0
+
+pub record Told : Type 0 where
+  pub answer : Heard
+  pub next : History
+
+abbrev pub told : Heard → History → Told
+told a h = record { answer = a; next = h }
+
+-- first or above the last: joins the times, ends the skip. Equal: nothing. Below: starts the skip
+abbrev pub tellTime : History → ℕ → Way → Told
+tellTime h t above = told taken (history (h .times ++ t ∷ []) (h .changes) false (h .count))
+tellTime h t equal = told same h
+tellTime h t below = told back (history (h .times) (h .changes) true (h .count))
+
+-- with 32 bits, then the count stays at its top
+abbrev pub counted : ℕ → ℕ
+counted n = pick (ltb n 4294967295) (n + 1) n
+
+-- in a skip: counted. Else: joins with the place of the last time, its content and its class
+abbrev pub tellChange : History → (signal : ℕ) → (skip : Bool) → Decoded → Told
+tellChange h g true d = told skipped (history (h .times) (h .changes) true (counted (h .count)))
+tellChange h g false (refuse n) = told silent h
+tellChange h g false (accept a c) =
+    told recorded (history (h .times) (h .changes ++ record { signal = g; place = length (h .times) - 1; content = a; class = c } ∷ []) false (h .count))
+
+-- a refused call, or finish: nothing changes
+unfoldable pub tell : List SignalEncoding → History → Call → (refused : Bool) → Told
+tell ks h c true = told silent h
+tell ks h (time t) false = tellTime h t (wayOf (h .times) t)
+tell ks h (change g v) false = tellChange h g (h .skip) (decode (getD ks g Absent) v)
+tell ks h finish false = told silent h
+
+pub record Telling : Type 0 where
+  pub answers : List Heard
+  pub last : History
+
+unfoldable pub tellAll : List SignalEncoding → History → List Call → (refusals : List Bool) → Telling
+tellAll ks h [] rs = record { answers = []; last = h }
+tellAll ks h (c ∷ cs) [] = record { answers = []; last = h }
+tellAll ks h (c ∷ cs) (r ∷ rs) =
+    let t = tell ks h c r in
+    let k = tellAll ks (t .next) cs rs in
+    record { answers = t .answer ∷ k .answers; last = k .last }
+
+-- ---- what is kept
+
+unfoldable pub sameList : List ℕ → List ℕ → Bool
+sameList [] [] = true
+sameList [] (y ∷ b) = false
+sameList (x ∷ a) [] = false
+sameList (x ∷ a) (y ∷ b) = eqb x y && sameList a b
+
+-- the second content repeats the first; an event never does, a real does by its bits
+abbrev pub repeats : Content → Content → Bool
+repeats happened c = false
+repeats (symbols a) happened = false
+repeats (symbols a) (symbols b) = sameList a b
+repeats (symbols a) (bits b) = false
+repeats (bits a) happened = false
+repeats (bits a) (symbols b) = false
+repeats (bits a) (bits b) = eqb a b
+
+-- an entry: its place and its content
+pub record Entry : Type 0 where
+  pub index : ℕ
+  pub content : Content
+
+-- the list of a signal
+unfoldable pub listOf : (signal : ℕ) → List Change → List Entry
+listOf g [] = []
+listOf g (c ∷ cs) = pick (eqb (c .signal) g) (record { index = c .place; content = c .content } ∷ listOf g cs) (listOf g cs)
+
+-- kept: the first, and each differing in content from the one before it in the list; of events all
+unfoldable pub keptAfter : Content → List Entry → List Entry
+keptAfter p [] = []
+keptAfter p (e ∷ es) = pick (repeats p (e .content)) (keptAfter (e .content) es) (e ∷ keptAfter (e .content) es)
+
+unfoldable pub kept : List Entry → List Entry
+kept [] = []
+kept (e ∷ es) = e ∷ keptAfter (e .content) es
+
+abbrev pub keptOf : History → (signal : ℕ) → List Entry
+keptOf h g = kept (listOf g (h .changes))
+
+-- class: the top class rule over the whole list, changes not kept included; Nine if it is empty
+unfoldable pub topOf : (signal : ℕ) → List Change → ℕ
+topOf g [] = 0
+topOf g (c ∷ cs) = max (pick (eqb (c .signal) g) (c .class) 0) (topOf g cs)
+
+abbrev pub orNine : List Entry → ℕ → ℕ
+orNine [] c = 2
+orNine (e ∷ es) c = c
+
+abbrev pub classOf : History → (signal : ℕ) → ℕ
+classOf h g = orNine (listOf g (h .changes)) (topOf g (h .changes))

@@ -1,0 +1,23 @@
+-- Document 01, 'Block and image': the head of an image.
+-- Assumes nothing.
+use Prim.Native.Nat.{ℕ, _+_, _*_}
+use mathlib.Core.List.{List, map, _++_}
+use lib.ListN.{length}
+use Rattle.numbers.specs.LittleEndian.{le}
+use Rattle.signal.specs.declared.kind.SignalEncoding.{SignalEncoding}
+use Rattle.signal.specs.declared.kind.SignalEncoding.the-variants.{BitVector, Real, Absent}
+use Rattle.image.specs.Block.{les}
+
+-- a kind's number: its width; FFFFFFFE real; FFFFFFFF absent
+abbrev pub kindNumber : SignalEncoding → ℕ
+kindNumber (BitVector w) = w
+kindNumber Real = 0xfffffffe
+kindNumber Absent = 0xffffffff
+
+-- the head has four numbers and a number for each signal
+abbrev pub headSize : ℕ → ℕ
+headSize s = 16 + 4 * s
+
+-- signals S, B, blocks N, total bytes, then S kinds
+unfoldable pub headBytes : (limit blocks total : ℕ) → List SignalEncoding → List ℕ
+headBytes limit n total ks = le 4 (length ks) ++ (le 4 limit ++ (le 4 n ++ (le 4 total ++ les 4 (map kindNumber ks))))

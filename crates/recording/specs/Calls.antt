@@ -1,0 +1,54 @@
+-- Document 01, 'Recording' and 'History': the calls of a recording, and what their answers say.
+-- Assumes nothing.
+use Prim.Native.Nat.{ℕ}
+use mathlib.Core.Bool.{Bool, true, false}
+use mathlib.Core.List.{List, [], _∷_}
+use lib.Dec.{ltb, eqb}
+use Rattle.lists.specs.Choice.{pick}
+use Rattle.vcd.specs.Vcd.{lastOr}
+use Rattle.signal.specs.Content.{Given}
+use Rattle.recording.specs.declared.Answer.{Answer}
+use Rattle.recording.specs.declared.Answer.the-variants.{Started, Taken, Same, Back, Recorded, Skipped, Finished, Refused}
+
+-- time; VCD, raw and real change; finish
+pub data Call : Type 0 where
+  time : ℕ → Call
+  change : (signal : ℕ) → Given → Call
+  finish : Call
+
+-- the answers of times and changes that are no refusals; `silent` stands for every other answer
+pub data Heard : Type 0 where
+  taken : Heard
+  same : Heard
+  back : Heard
+  recorded : Heard
+  skipped : Heard
+  silent : Heard
+
+-- an answer: a refusal by its number, an answer of a time or a change, a start, or the total bytes of a finish
+pub data Reply : Type 0 where
+  refuse : ℕ → Reply
+  say : Heard → Reply
+  started : Reply
+  total : ℕ → Reply
+
+-- the one reading of the code's enum
+abbrev pub replyOf : Answer → Reply
+replyOf Started = started
+replyOf Taken = say taken
+replyOf Same = say same
+replyOf Back = say back
+replyOf Recorded = say recorded
+replyOf Skipped = say skipped
+replyOf (Finished n) = total n
+replyOf (Refused n) = refuse n
+
+-- a time against the last one taken: the first and a larger one are above
+pub data Way : Type 0 where
+  above : Way
+  equal : Way
+  below : Way
+
+unfoldable pub wayOf : List ℕ → ℕ → Way
+wayOf [] t = above
+wayOf (x ∷ l) t = pick (ltb (lastOr x l) t) above (pick (eqb t (lastOr x l)) equal below)

@@ -1,0 +1,5 @@
+pub mod Calls
+pub mod Work
+pub mod Memory
+pub mod TurnedBack
+pub mod Step

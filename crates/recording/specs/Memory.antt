@@ -1,0 +1,47 @@
+-- The state, the records and the lent buffers of a call, and what a call leaves. They may be anything: the calls' definitions do not
+-- assume that the calls before left them.
+-- Assumes nothing.
+use Prim.Native.Nat.{ℕ}
+use mathlib.Core.Bool.{Bool}
+use mathlib.Core.List.{List, [], _∷_}
+use lib.ListN.{getD}
+use Rattle.lists.specs.Choice.{pick}
+use Rattle.value.specs.declared.states.States.{States}
+use Rattle.value.specs.declared.states.States.the-variants.{Two}
+use Rattle.signal.specs.declared.kind.SignalEncoding.{SignalEncoding}
+use Rattle.signal.specs.declared.kind.SignalEncoding.the-variants.{Absent}
+use Rattle.recording.specs.declared.Encoder.{Encoder}
+use Rattle.recording.specs.declared.SignalRecord.{SignalRecord}
+use Rattle.recording.specs.Calls.{Reply, refuse}
+
+pub record Memory : Type 0 where
+  pub state : Encoder
+  pub records : List SignalRecord
+  pub times : List ℕ
+  pub work : List ℕ
+  pub image : List ℕ
+
+abbrev pub memory : Encoder → List SignalRecord → (times work image : List ℕ) → Memory
+memory s r t w i = record { state = s; records = r; times = t; work = w; image = i }
+
+pub record After : Type 0 where
+  pub reply : Reply
+  pub memory : Memory
+
+abbrev pub after : Reply → Memory → After
+after r m = record { reply = r; memory = m }
+
+abbrev pub recordOf : SignalEncoding → ℕ → States → SignalRecord
+recordOf k i t = record { kind = k; index = i; top = t }
+
+-- the record of a signal; past the records stands an absent one
+abbrev pub recordAt : Memory → ℕ → SignalRecord
+recordAt m g = getD (m .records) g (recordOf Absent 0 Two)
+
+-- refusals in their order, each with its condition: the first that holds turns the call back by its number, and all memory stays
+abbrev pub Tests : Type 0
+Tests = List (Bool × ℕ)
+
+abbrev pub turned : Tests → Memory → After → After
+turned [] m e = e
+turned (t ∷ ts) m e = pick (t .0) (after (refuse (t .1)) m) (turned ts m e)

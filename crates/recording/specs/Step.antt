@@ -1,0 +1,181 @@
+-- Document 01, 'Recording' and 'Block and image': what start, time, change and finish do to the state and the lent memory.
+-- Assumes nothing.
+use Prim.Native.Nat.{ℕ, zero, suc, _+_, _-_, max}
+use mathlib.Core.Bool.{Bool, true, false}
+use mathlib.Core.List.{List, [], _∷_, _++_, map}
+use mathlib.Core.Option.{Option, some, none}
+use lib.ListN.{length, take, getD, set}
+use lib.Seq.{sets}
+use lib.Dec.{ltb, eqb}
+use Rattle.lists.specs.Choice.{pick}
+use Rattle.numbers.specs.LittleEndian.{le}
+use Rattle.value.specs.Class.{classNumber, statesOf}
+use Rattle.value.specs.declared.states.States.the-variants.{Two}
+use Rattle.signal.specs.declared.kind.SignalEncoding.{SignalEncoding}
+use Rattle.signal.specs.Content.{Given, Decoded, refuse, accept, decode}
+use Rattle.stream.specs.Stream.{changeBytes}
+use Rattle.image.specs.Block.{Part, Block, part, block, blockBytes}
+use Rattle.image.specs.Head.{headBytes, headSize}
+use Rattle.recording.specs.declared.Encoder.{Encoder}
+use Rattle.recording.specs.declared.SignalRecord.{SignalRecord}
+use Rattle.recording.specs.Calls.{Call, time, change, finish, taken, same, back, recorded, skipped, Reply, say, started, total, Way, above, equal, below, wayOf}
+use Rattle.recording.specs.Calls as calls
+use Rattle.recording.specs.Work.{Item, item, itemBytes, itemsOf, gather}
+use Rattle.recording.specs.Memory.{Memory, memory, After, after, recordOf, recordAt, turned}
+use Rattle.recording.specs.TurnedBack.{startTests, openTests, earlyTests, signalTests, roomTests}
+
+abbrev pub encoder : (closed : Bool) (limit signals held work image blocks : ℕ) (skip : Bool) (skipped : ℕ) → Encoder
+encoder c l s h w i b k n = record { closed = c; limit = l; signals = s; held = h; work = w; image = i; blocks = b; skip = k; skipped = n }
+
+abbrev pub withState : Memory → Encoder → Memory
+withState m s = memory s (m .records) (m .times) (m .work) (m .image)
+
+-- ---- a cut
+
+-- a signal with no stream bytes has no part
+abbrev pub partFrom : (top : ℕ) → List ℕ → Option (Part (List ℕ))
+partFrom t [] = none
+partFrom t (x ∷ s) = some (part t (x ∷ s))
+
+unfoldable pub partsFrom : (signal : ℕ) → List SignalRecord → List Item → List (Option (Part (List ℕ)))
+partsFrom g [] is = []
+partsFrom g (r ∷ rs) is = partFrom (classNumber (r .top)) (gather g is) ∷ partsFrom (suc g) rs is
+
+abbrev pub cutBlock : Memory → List Item → Block (List ℕ)
+cutBlock m is = block (take (m .state .held) (m .times)) (partsFrom 0 (m .records) is)
+
+-- each record's index is 0 again; its top class stays
+abbrev pub rewound : SignalRecord → SignalRecord
+rewound r = recordOf (r .kind) 0 (r .top)
+
+-- the block from the first unused byte on, then N and total; the next table begins with the old last time; the work buffer is empty
+abbrev pub cutIn : Memory → List ℕ → Memory
+cutIn m b =
+    let s = m .state in
+    memory (encoder (s .closed) (s .limit) (s .signals) 1 0 (s .image + length b) (s .blocks + 1) (s .skip) (s .skipped))
+    (map rewound (m .records))
+    (set (m .times) 0 (getD (m .times) (s .held - 1) 0))
+    (m .work)
+    (sets (sets (m .image) (s .image) b) 8 (le 4 (s .blocks + 1) ++ le 4 (s .image + length b)))
+
+pub data Cut : Type 0 where
+  noCut : ℕ → Cut
+  cuts : List ℕ → Cut
+
+-- 10: the work does not divide into records of numbers below S. 8: the block exceeds the unused image bytes
+abbrev pub cutItems : Memory → Option (List Item) → Cut
+cutItems m none = noCut 10
+cutItems m (some is) =
+    pick (ltb (length (m .image) - m .state .image) (length (blockBytes (cutBlock m is)))) (noCut 8) (cuts (blockBytes (cutBlock m is)))
+
+unfoldable pub cutOf : Memory → Cut
+cutOf m = cutItems m (itemsOf (m .state .work) (m .state .signals) (take (m .state .work) (m .work)))
+
+-- ---- time
+
+-- a taken time joins the table and ends a skip
+abbrev pub timed : Memory → ℕ → Memory
+timed m t =
+    let s = m .state in
+    memory (encoder (s .closed) (s .limit) (s .signals) (s .held + 1) (s .work) (s .image) (s .blocks) false (s .skipped))
+    (m .records) (set (m .times) (s .held) t) (m .work) (m .image)
+
+abbrev pub skipping : Encoder → Encoder
+skipping s = encoder (s .closed) (s .limit) (s .signals) (s .held) (s .work) (s .image) (s .blocks) true (s .skipped)
+
+abbrev pub timeCut : Memory → ℕ → Cut → After
+timeCut m t (noCut n) = after (calls.refuse n) m
+timeCut m t (cuts b) = after (say taken) (timed (cutIn m b) t)
+
+-- a larger time is taken, after a cut if the table already holds B times; an equal one changes nothing; a smaller one starts a skip
+abbrev pub timeBy : Memory → ℕ → Way → After
+timeBy m t above = pick (eqb (m .state .held) (m .state .limit)) (timeCut m t (cutOf m)) (after (say taken) (timed m t))
+timeBy m t equal = after (say same) m
+timeBy m t below = after (say back) (withState m (skipping (m .state)))
+
+unfoldable pub timeOf : Memory → ℕ → After
+timeOf m t = turned (openTests m) m (timeBy m t (wayOf (take (m .state .held) (m .times)) t))
+
+-- ---- change
+
+-- counted with 32 bits, then the count stays at its top
+abbrev pub counted : ℕ → ℕ
+counted n = pick (ltb n 4294967295) (n + 1) n
+
+abbrev pub skippedOne : Encoder → Encoder
+skippedOne s = encoder (s .closed) (s .limit) (s .signals) (s .held) (s .work) (s .image) (s .blocks) (s .skip) (counted (s .skipped))
+
+-- the signal's record has the last time's index and a top class that rises to c; the work buffer has the change's record
+abbrev pub recordedIn : Memory → (signal : ℕ) → (stream : List ℕ) → (c : ℕ) → Memory
+recordedIn m g b c =
+    let s = m .state in
+    let r = recordAt m g in
+    memory (encoder (s .closed) (s .limit) (s .signals) (s .held) (s .work + (8 + length b)) (s .image) (s .blocks) (s .skip) (s .skipped))
+    (set (m .records) g (recordOf (r .kind) (s .held - 1) (statesOf (max (classNumber (r .top)) c))))
+    (m .times)
+    (sets (m .work) (s .work) (itemBytes (item g b)))
+    (m .image)
+
+abbrev pub changeBy : Memory → (signal : ℕ) → Decoded → After
+changeBy m g (refuse n) = after (calls.refuse n) m
+changeBy m g (accept a c) =
+    let b = changeBytes (recordAt m g .kind) (m .state .held - 1 - recordAt m g .index) a in
+    turned (roomTests m g (length b)) m (after (say recorded) (recordedIn m g b c))
+
+-- 2, 10 (first group), 3, skip, 4, 5, 6, 10 (second group), 7
+unfoldable pub changeOf : Memory → (signal : ℕ) → Given → After
+changeOf m g v =
+    turned (openTests m) m
+    (turned (earlyTests m) m
+    (pick (m .state .skip) (after (say skipped) (withState m (skippedOne (m .state))))
+    (turned (signalTests m g) m
+    (changeBy m g (decode (recordAt m g .kind) v)))))
+
+-- ---- finish
+
+abbrev pub closedNow : Encoder → Encoder
+closedNow s = encoder true (s .limit) (s .signals) (s .held) (s .work) (s .image) (s .blocks) (s .skip) (s .skipped)
+
+abbrev pub closing : Memory → After
+closing m = after (total (m .state .image)) (withState m (closedNow (m .state)))
+
+abbrev pub finishCut : Memory → Cut → After
+finishCut m (noCut n) = after (calls.refuse n) m
+finishCut m (cuts b) = closing (cutIn m b)
+
+-- cuts if any time was taken, and closes; it answers the total bytes
+unfoldable pub finishOf : Memory → After
+finishOf m = turned (openTests m) m (pick (eqb (m .state .held) 0) (closing m) (finishCut m (cutOf m)))
+
+-- ---- start
+
+abbrev pub fresh : SignalRecord → SignalRecord
+fresh r = recordOf (r .kind) 0 Two
+
+abbrev pub kindIn : SignalRecord → SignalEncoding
+kindIn r = r .kind
+
+-- a head with N = 0 and total 16 + 4S, each record's index and class 0
+unfoldable pub startOf : (limit signals : ℕ) → Memory → After
+startOf limit signals m =
+    turned (startTests limit signals (m .records) (length (m .times)) (length (m .image))) m
+    (after started
+    (memory (encoder false limit signals 0 0 (headSize signals) 0 false 0)
+    (map fresh (m .records)) (m .times) (m .work)
+    (sets (m .image) 0 (headBytes limit 0 (headSize signals) (map kindIn (m .records))))))
+
+-- ---- lists of calls
+
+unfoldable pub step : Memory → Call → After
+step m (time t) = timeOf m t
+step m (change g v) = changeOf m g v
+step m finish = finishOf m
+
+pub record Ran : Type 0 where
+  pub replies : List Reply
+  pub last : Memory
+
+-- each on the memory that the one before left
+unfoldable pub run : Memory → List Call → Ran
+run m [] = record { replies = []; last = m }
+run m (c ∷ cs) = let e = step m c in let r = run (e .memory) cs in record { replies = e .reply ∷ r .replies; last = r .last }

@@ -1,0 +1,46 @@
+// The state of a recording, its signals' records and its answers. Document 01, 'Recording', 'Turned back'.
+//
+// What each call does to them is defined in specs/Step.antt; the refusals stand in specs/TurnedBack.antt.
+use signal::kind::SignalEncoding;
+use value::states::States;
+
+// A signal by its number.
+pub struct SignalRef(pub u32);
+
+// A signal's kind, the time index of its last change in the block, and its top class.
+pub struct SignalRecord {
+    pub kind: SignalEncoding,
+    pub index: u32,
+    pub top: States,
+}
+
+// A recording between two calls. Buffers are lent at each call; here is how much of each is used.
+pub struct Encoder {
+    pub closed: bool,
+    // B: how many times a block holds.
+    pub limit: u32,
+    // S.
+    pub signals: u32,
+    // Times in the table.
+    pub held: u32,
+    // Bytes in the work buffer. It has 64 bits: one block can need more than 2^32 of them.
+    pub work: u64,
+    // Bytes in the image.
+    pub image: u32,
+    pub blocks: u32,
+    pub skip: bool,
+    pub skipped: u32,
+}
+
+pub enum Answer {
+    Started,
+    Taken,
+    Same,
+    Back,
+    Recorded,
+    Skipped,
+    // The total bytes of the image.
+    Finished(u32),
+    // The refusal's number.
+    Refused(u32),
+}
