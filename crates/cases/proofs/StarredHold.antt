@@ -3,11 +3,13 @@
 use mathlib.Core.Path.{_≡_, refl}
 use mathlib.Core.Bool.{true}
 use mathlib.Core.List.{List, [], _∷_}
+use Rattle.lists.specs.Same.{same}
 use Rattle.numbers.specs.Leb128.{groups, lebOf}
 use Rattle.numbers.specs.LittleEndian.{le, unle}
 use Rattle.value.specs.Symbol.{symbolOf}
 use Rattle.value.specs.Class.{classOfAll}
-use Rattle.vcd.specs.Vcd.{symbolsIn, lastOr, vcdBit, textOf, extended, textSymbols}
+use Rattle.lists.specs.Last.{lastOr}
+use Rattle.vcd.specs.Vcd.{symbolsIn, vcdBit, textOf, extended, textSymbols}
 use Rattle.packed.specs.Packed.{numberOf, digits, packed}
 use Rattle.signal.specs.Content.{vcd, decode}
 use Rattle.signal.specs.declared.kind.SignalEncoding.the-variants.{BitVector}
@@ -19,7 +21,7 @@ use Rattle.recording.specs.Work.{itemsOf, gather}
 use Rattle.recording.specs.TurnedBack.{unknownKind, startTests, openTests}
 use Rattle.recording.specs.Step.{partsFrom, cutOf, timeOf, changeOf, finishOf, startOf, step, run}
 use Rattle.cases.specs.Runs.{lent, ran, imageLeft}
-use Rattle.cases.specs.Starred.{same, holds, allHold, starred}
+use Rattle.cases.specs.Starred.{holds, allHold, starred}
 
 pub starred-hold : allHold starred ≡ true
 unfolding groups lebOf le unle symbolOf classOfAll symbolsIn lastOr vcdBit textOf extended textSymbols numberOf digits packed decode changeBytes les dataOf offsetsFrom blockBytes headBytes wayOf itemsOf gather unknownKind startTests openTests partsFrom cutOf timeOf changeOf finishOf startOf step run lent ran imageLeft same holds allHold starred

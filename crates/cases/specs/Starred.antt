@@ -1,10 +1,10 @@
 -- Document 01, 'Bench sheet': the starred cases, in the sheet's order, as far as the definitions below this crate decide them.
 -- Assumes nothing.
-use Prim.Native.Nat.{ℕ, suc}
+use Prim.Native.Nat.{ℕ}
 use mathlib.Core.Bool.{Bool, true, false, _&&_}
 use mathlib.Core.List.{List, [], _∷_, _++_}
 use mathlib.Core.Option.{Option, some, none}
-use lib.Dec.{eqb}
+use Rattle.lists.specs.Same.{same}
 use Rattle.value.specs.Class.{classOfAll}
 use Rattle.vcd.specs.Vcd.{vcdSymbols}
 use Rattle.packed.specs.Packed.{packed}
@@ -25,12 +25,6 @@ pub data Case : Type 0 where
   writes : (width d : ℕ) (symbols bytes : List ℕ) → Case
   -- calls, from a start to a finish, leave an image
   leaves : (limit : ℕ) (kinds : List SignalEncoding) (calls : List Call) (image : List ℕ) → Case
-
-unfoldable pub same : List ℕ → List ℕ → Bool
-same [] [] = true
-same [] (y ∷ b) = false
-same (x ∷ a) [] = false
-same (x ∷ a) (y ∷ b) = eqb x y && same a b
 
 abbrev pub answers : Option (List ℕ) → List ℕ → Bool
 answers none s = false

@@ -2,17 +2,20 @@
 -- recorder's state.
 -- Assumes nothing.
 use Prim.Native.Nat.{ℕ, _+_, _-_, max}
-use mathlib.Core.Bool.{Bool, true, false, _&&_}
+use mathlib.Core.Bool.{Bool, true, false}
 use mathlib.Core.List.{List, [], _∷_, _++_}
 use lib.ListN.{length, getD}
 use lib.Dec.{ltb, eqb}
 use Rattle.lists.specs.Choice.{pick}
+use Rattle.lists.specs.Same.{same}
 use Rattle.signal.specs.declared.kind.SignalEncoding.{SignalEncoding}
 use Rattle.signal.specs.declared.kind.SignalEncoding.the-variants.{Absent}
 use Rattle.signal.specs.Content.{Content, happened, symbols, bits, Decoded, refuse, accept, decode}
-use Rattle.recording.specs.Calls.{Call, time, change, finish, Heard, taken, same, back, recorded, skipped, silent, Way, above, equal, below, wayOf}
+use Rattle.recording.specs.Calls as calls
+use Rattle.recording.specs.Calls.{Call, time, change, finish, Heard, taken, back, recorded, skipped, silent, Way, above, equal, below, wayOf}
 
--- a change: its signal, the place of the last time (from 0), its content, and the class that the top class rises to
+-- a change: its signal, the place of the last time (from 0), its content, and the larger of
+-- its value's class and a raw claim
 pub record Change : Type 0 where
   pub signal : ℕ
   pub place : ℕ
@@ -43,14 +46,14 @@ told a h = record { answer = a; next = h }
 -- first or above the last: joins the times, ends the skip. Equal: nothing. Below: starts the skip
 abbrev pub tellTime : History → ℕ → Way → Told
 tellTime h t above = told taken (history (h .times ++ t ∷ []) (h .changes) false (h .count))
-tellTime h t equal = told same h
+tellTime h t equal = told calls.same h
 tellTime h t below = told back (history (h .times) (h .changes) true (h .count))
 
 -- with 32 bits, then the count stays at its top
 abbrev pub counted : ℕ → ℕ
 counted n = pick (ltb n 4294967295) (n + 1) n
 
--- in a skip: counted. Else: joins with the place of the last time, its content and its class
+-- in a skip: counted. A value that says nothing to the signal's kind (then the call is refused): nothing. Else: joins with the place of the last time, its content and its class
 abbrev pub tellChange : History → (signal : ℕ) → (skip : Bool) → Decoded → Told
 tellChange h g true d = told skipped (history (h .times) (h .changes) true (counted (h .count)))
 tellChange h g false (refuse n) = told silent h
@@ -78,17 +81,11 @@ tellAll ks h (c ∷ cs) (r ∷ rs) =
 
 -- ---- what is kept
 
-unfoldable pub sameList : List ℕ → List ℕ → Bool
-sameList [] [] = true
-sameList [] (y ∷ b) = false
-sameList (x ∷ a) [] = false
-sameList (x ∷ a) (y ∷ b) = eqb x y && sameList a b
-
 -- the second content repeats the first; an event never does, a real does by its bits
 abbrev pub repeats : Content → Content → Bool
 repeats happened c = false
 repeats (symbols a) happened = false
-repeats (symbols a) (symbols b) = sameList a b
+repeats (symbols a) (symbols b) = same a b
 repeats (symbols a) (bits b) = false
 repeats (bits a) happened = false
 repeats (bits a) (symbols b) = false

@@ -6,7 +6,7 @@ use mathlib.Core.Option.{Option, some, none}
 use lib.ListN.{length}
 use Rattle.numbers.specs.LittleEndian.{le}
 
--- what a block holds of a signal with changes: its top class and its stream
+-- what a block holds of a signal with changes: its top class and its stream, as bytes (C is List ℕ) or as what they say
 pub record Part (C : Type 0) : Type 0 where
   pub top : ℕ
   pub stream : C

@@ -4,6 +4,7 @@
 // The contract cites `symbolsFrom` of specs/Notation.antt (which symbols) and `packed` of the crate packed (which bytes). One pass, no copy.
 use packed::get_bit;
 use value::states::States;
+use value::symbol::Bit;
 use vcd::extended_symbol;
 ghost use mathlib.Core.Path.{_≡_};
 ghost use mathlib.Core.Bool.{true};
@@ -27,28 +28,25 @@ fn wide(x: u8) -> u32
 }
 
 // The symbol at a place counted from the left.
-fn symbol_at(src: &[u8], notation: Notation, width: u32, place: u32) -> u8
+fn symbol_at(src: &[u8], notation: Notation, width: u32, place: u32) -> Bit
     requires { ⌜ Readable notation width (now src) × (place < width) ⌝ }
-    ensures { λ r. ⌜ r ≡ getD (symbolsFrom notation width (now (src .entry))) place 0 ⌝ }
+    ensures { λ r. ⌜ r .0 ≡ getD (symbolsFrom notation width (now (src .entry))) place 0 ⌝ }
 {
     match notation {
-        Notation::Packed(states) => {
-            let bit = get_bit(src, states, width - 1 - place);
-            bit.0
-        }
+        Notation::Packed(states) => get_bit(src, states, width - 1 - place),
         Notation::Ascii => extended_symbol(src, width, place),
     }
 }
 
 // The bits of a byte with one symbol more.
-fn pushed(working: u32, states: States, symbol: u8) -> u32
+fn pushed(working: u32, states: States, symbol: Bit) -> u32
     requires { ⌜ working < 256 ⌝ }
-    ensures { λ r. ⌜ r ≡ working * 2 ^ bitsOf (classNumber states) + symbol ⌝ }
+    ensures { λ r. ⌜ r ≡ working * 2 ^ bitsOf (classNumber states) + symbol .0 ⌝ }
 {
     match states {
-        States::Two => working * 2 + wide(symbol),
-        States::Four => working * 4 + wide(symbol),
-        States::Nine => working * 16 + wide(symbol),
+        States::Two => working * 2 + wide(symbol.0),
+        States::Four => working * 4 + wide(symbol.0),
+        States::Nine => working * 16 + wide(symbol.0),
     }
 }
 

@@ -5,12 +5,12 @@ use mathlib.Core.Bool.{Bool, true, false}
 use mathlib.Core.List.{List, [], _∷_}
 use lib.Dec.{ltb, eqb}
 use Rattle.lists.specs.Choice.{pick}
-use Rattle.vcd.specs.Vcd.{lastOr}
+use Rattle.lists.specs.Last.{lastOr}
 use Rattle.signal.specs.Content.{Given}
 use Rattle.recording.specs.declared.Answer.{Answer}
 use Rattle.recording.specs.declared.Answer.the-variants.{Started, Taken, Same, Back, Recorded, Skipped, Finished, Refused}
 
--- time; VCD, raw and real change; finish
+-- time; VCD, raw and real change (the cases of `Given`) of any signal number; finish
 pub data Call : Type 0 where
   time : ℕ → Call
   change : (signal : ℕ) → Given → Call

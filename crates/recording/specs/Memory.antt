@@ -1,5 +1,6 @@
 -- The state, the records and the lent buffers of a call, and what a call leaves. They may be anything: the calls' definitions do not
--- assume that the calls before left them.
+-- assume that the calls before left them. `work` and `image` here are the buffers; the state's fields of these names count their used
+-- bytes.
 -- Assumes nothing.
 use Prim.Native.Nat.{ℕ}
 use mathlib.Core.Bool.{Bool}

@@ -48,7 +48,8 @@ cutBlock m is = block (take (m .state .held) (m .times)) (partsFrom 0 (m .record
 abbrev pub rewound : SignalRecord → SignalRecord
 rewound r = recordOf (r .kind) 0 (r .top)
 
--- the block from the first unused byte on, then N and total; the next table begins with the old last time; the work buffer is empty
+-- the block from the first unused byte on, then N and total over it (in that order, which shows only where used bytes are altered to
+-- less than a head); the next table begins with the old last time, after a finish too; the work buffer is empty
 abbrev pub cutIn : Memory → List ℕ → Memory
 cutIn m b =
     let s = m .state in
@@ -116,6 +117,7 @@ recordedIn m g b c =
     (sets (m .work) (s .work) (itemBytes (item g b)))
     (m .image)
 
+-- d is the last time's index less the record's; a record's index beyond the last is turned back before d is used
 abbrev pub changeBy : Memory → (signal : ℕ) → Decoded → After
 changeBy m g (refuse n) = after (calls.refuse n) m
 changeBy m g (accept a c) =
@@ -143,7 +145,7 @@ abbrev pub finishCut : Memory → Cut → After
 finishCut m (noCut n) = after (calls.refuse n) m
 finishCut m (cuts b) = closing (cutIn m b)
 
--- cuts if any time was taken, and closes; it answers the total bytes
+-- cuts if any time is held, and closes; it answers the total bytes
 unfoldable pub finishOf : Memory → After
 finishOf m = turned (openTests m) m (pick (eqb (m .state .held) 0) (closing m) (finishCut m (cutOf m)))
 

@@ -30,7 +30,8 @@ sizeAt w = unle (take 4 (drop 4 w))
 abbrev pub whole : (n : ℕ) → List ℕ → Bool
 whole n w = leb 8 (length w) && (leb (sizeAt w) (length w - 8) && ltb (signalAt w) n)
 
--- the records of numbers below n into which work bytes divide, none where they do not; k is at least the number of bytes
+-- the records of numbers below n into which work bytes divide, none where they do not; k only bounds the walk, and
+-- the number of bytes is enough
 unfoldable pub itemsOf : (k n : ℕ) → List ℕ → Option (List Item)
 itemsOf zero n [] = some []
 itemsOf zero n (x ∷ w) = none

@@ -7,7 +7,7 @@ use value::states::States;
 // A signal by its number.
 pub struct SignalRef(pub u32);
 
-// A signal's kind, the time index of its last change in the block, and its top class.
+// A signal's kind, the time index of its last change in the block (0 if it has none), and its top class.
 pub struct SignalRecord {
     pub kind: SignalEncoding,
     pub index: u32,
@@ -17,18 +17,21 @@ pub struct SignalRecord {
 // A recording between two calls. Buffers are lent at each call; here is how much of each is used.
 pub struct Encoder {
     pub closed: bool,
-    // B: how many times a block holds.
+    // B: how many times a block holds at most.
     pub limit: u32,
     // S.
     pub signals: u32,
-    // Times in the table.
+    // Times in the table; 1 after a finish that cut.
     pub held: u32,
-    // Bytes in the work buffer. It has 64 bits: one block can need more than 2^32 of them.
+    // Used bytes of the work buffer. It has 64 bits: one block can need more than 2^32 of them.
     pub work: u64,
-    // Bytes in the image.
+    // Used bytes of the image buffer: the total.
     pub image: u32,
+    // N.
     pub blocks: u32,
+    // Changes are skipped since a time went back.
     pub skip: bool,
+    // How many changes were skipped; it stays at its top.
     pub skipped: u32,
 }
 

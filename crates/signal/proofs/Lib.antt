@@ -1,3 +1,4 @@
 pub mod DecodeLaws
 pub mod AnswerLaws
 pub mod SayLaws
+pub mod Cases

@@ -3,3 +3,4 @@ pub mod LengthLaws
 pub mod SaysLaws
 pub mod ReadLaws
 pub mod WriteLaws
+pub mod Cases

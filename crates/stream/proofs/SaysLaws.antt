@@ -6,11 +6,9 @@ use mathlib.Core.Bool.{Bool, true, false}
 use mathlib.Core.List.{List, [], _∷_}
 use mathlib.Core.Option.{Option, some, none}
 use native.Mathlib.Omega.{arith}
-use borrow.Author.Tests.{leb-true}
 use lib.Dec.{leb}
 use lib.ListN.{length, length-drop}
 use Rattle.lists.specs.Choice.{pick, isSome}
-use Rattle.lists.proofs.ChoiceLaws.{both-hold}
 use Rattle.numbers.specs.Leb128.{lebOf}
 use Rattle.value.specs.Class.{statesOf, classNumber, classOfAll, allSymbols}
 use Rattle.value.specs.declared.states.States.{States}
@@ -36,6 +34,7 @@ use Rattle.signal.specs.Answer.{valueOf, decodedAs}
 use Rattle.signal.proofs.DecodeLaws.{OneBit, one-bit, ManyBits, many-bits, no-event, no-real, vcd-wide, raw-wide, accepted}
 use Rattle.stream.specs.Stream.{changeBytes}
 use Rattle.stream.specs.Answer.{Says, saidBytes, changeLength}
+use Rattle.stream.proofs.StreamTrip.{first-symbol}
 use Rattle.stream.proofs.LengthLaws.{change-length}
 
 refused : {A : Type 0} (n : ℕ) (v : ChangeValue) (t : States) → Refused n ≡ Change v t → A
@@ -72,13 +71,9 @@ pub record BitSaid (k : SignalEncoding) (d : ℕ) (g : Given) (b : Bit) : Type 0
   pub symbol : b .0 ≤ 8
   pub bytes : saidBytes k d g ≡ changeBytes (BitVector 1) d (symbols (b .0 ∷ []))
 
-first-symbol : (x : ℕ) → allSymbols (x ∷ []) ≡ true → x ≤ 8
-unfolding allSymbols
-first-symbol x a = leb-true x 8 (both-hold (leb x 8) true a .0)
-
 bit-said : (w d c : ℕ) (o : Option (List ℕ)) (b : Bit) → OneBit w o b → (o ≡ some (b .0 ∷ []) → allSymbols (b .0 ∷ []) ≡ true)
     → (b .0 ≤ 8) × (changeBytes (BitVector (suc w)) d (contentOf (vectorSays o c)) ≡ changeBytes (BitVector 1) d (symbols (b .0 ∷ [])))
-bit-said w d c o b x f = (first-symbol (b .0) (f (x .said)), rw (x .said, x .width) refl)
+bit-said w d c o b x f = (first-symbol (b .0 ∷ []) (f (x .said)), rw (x .said, x .width) refl)
 
 vcd-single : (k : SignalEncoding) (d : ℕ) (l : List ℕ) (b : Bit) → Says k (vcd l) (value.SingleBit b) → BitSaid k d (vcd l) b
 unfolding decode

@@ -77,7 +77,7 @@ real-there d b r h k =
     let room : leb 8 (length (le 8 b ++ r)) ≡ true = le-leb 8 (length (le 8 b ++ r)) (omega (arith, length-append (le 8 b) r, length-le 8 b)) in
     rw (room, front, rest, unle-le 8 b k, le-leb d maxDelta h) refl
 
-first-symbol : (s : List ℕ) → allSymbols s ≡ true → getD s 0 0 ≤ 8
+pub first-symbol : (s : List ℕ) → allSymbols s ≡ true → getD s 0 0 ≤ 8
 unfolding allSymbols
 first-symbol [] a = omega arith
 first-symbol (x ∷ s) a = leb-true x 8 (both-hold (leb x 8) (allSymbols s) a .0)

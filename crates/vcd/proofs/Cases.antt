@@ -5,7 +5,8 @@ use mathlib.Core.Path.{_≡_, refl}
 use mathlib.Core.List.{List, [], _∷_, map}
 use mathlib.Core.Option.{Option, some, none}
 use Rattle.value.specs.Symbol.{symbolOf}
-use Rattle.vcd.specs.Vcd.{symbolsIn, lastOr, vcdBit, textOf, extended, textSymbols, vcdSymbols}
+use Rattle.lists.specs.Last.{lastOr}
+use Rattle.vcd.specs.Vcd.{symbolsIn, vcdBit, textOf, extended, textSymbols, vcdSymbols}
 
 abbrev Case : Type 0
 Case = ℕ × List ℕ × Option (List ℕ)

@@ -22,7 +22,8 @@ use Rattle.value.specs.declared.states.States.{States}
 use Rattle.value.specs.declared.states.MaybeStates.the-variants.{Some, None}
 use Rattle.value.specs.declared.change.BitVecChange.the-variants.{SingleBit, MultiBit, Bad}
 use Rattle.value.proofs.SymbolLaws.{letter-symbol}
-use Rattle.vcd.specs.Vcd.{symbolsIn, lastOr, vcdBit, withoutB, without0b, textOf, extended, textSymbols, vcdSymbols, asciiStates, orEmpty}
+use Rattle.lists.specs.Last.{lastOr}
+use Rattle.vcd.specs.Vcd.{symbolsIn, vcdBit, withoutB, without0b, textOf, extended, textSymbols, vcdSymbols, asciiStates, orEmpty}
 use Rattle.vcd.proofs.SymbolsLaws.{Symbols, symbols-more, symbols-is, symbols-of, symbols-number}
 use Rattle.vcd.proofs.ExtendedLaws.{Extended, extended-is, extended-some}
 

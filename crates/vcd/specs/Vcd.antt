@@ -7,6 +7,7 @@ use mathlib.Core.Option.{Option, some, none}
 use lib.ListN.{length, drop, getD, replicate}
 use lib.Dec.{ltb, eqb}
 use Rattle.lists.specs.Choice.{pick, bind}
+use Rattle.lists.specs.Last.{lastOr}
 use Rattle.value.specs.Symbol.{symbolOf}
 use Rattle.value.specs.Class.{statesOf, classOfAll}
 use Rattle.value.specs.declared.states.MaybeStates.{MaybeStates}
@@ -16,11 +17,6 @@ use Rattle.value.specs.declared.states.MaybeStates.the-variants.{Some, None}
 unfoldable pub symbolsIn : List ℕ → Option (List ℕ)
 symbolsIn [] = some []
 symbolsIn (b ∷ v) = bind (symbolOf b) (λ s. bind (symbolsIn v) (λ l. some (s ∷ l)))
-
--- the last byte, d where there is none
-unfoldable pub lastOr : ℕ → List ℕ → ℕ
-lastOr d [] = d
-lastOr d (x ∷ l) = lastOr x l
 
 -- width 1: only the last byte counts; an empty value or a last byte `b` (98) is 0
 unfoldable pub vcdBit : List ℕ → Option (List ℕ)

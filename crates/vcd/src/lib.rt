@@ -78,20 +78,20 @@ fn states_from_ascii(text: &[u8]) -> MaybeStates
 
 // The symbol at a place, counted from the left, of a text that is extended to a width: by its first symbol 0 or 1 with 0, by x or z
 // with itself.
-pub fn extended_symbol(text: &[u8], width: u32, place: u32) -> u8
+pub fn extended_symbol(text: &[u8], width: u32, place: u32) -> Bit
     requires { ⌜ (isSome (textSymbols width (now text)) ≡ true) × (place < width) ⌝ }
-    ensures { λ r. ⌜ r ≡ getD (orEmpty (textSymbols width (now (text .entry)))) place 0 ⌝ }
+    ensures { λ r. ⌜ r .0 ≡ getD (orEmpty (textSymbols width (now (text .entry)))) place 0 ⌝ }
 {
     let missing = width as usize - text.len();
     let at = place as usize;
     if missing <= at {
-        return symbol_number(text[at - missing]);
+        return Bit(symbol_number(text[at - missing]));
     }
     let first = symbol_number(text[0]);
     if first < 2 {
-        return 0;
+        return Bit(0);
     }
-    first
+    Bit(first)
 }
 
 // A value of width 1: its last byte counts alone; nothing, or a last `b`, is 0.
