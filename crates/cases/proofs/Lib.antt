@@ -1,1 +1,2 @@
 pub mod StarredHold
+pub mod RunsHold
