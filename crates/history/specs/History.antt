@@ -1,21 +1,20 @@
 -- Document 01, 'History': what a list of calls says. Fed are kinds, calls and, of the answers, only which are refusals; nothing of the
 -- recorder's state.
 -- Assumes nothing.
-use Prim.Native.Nat.{ℕ, _+_, _-_, max}
+use Prim.Native.Nat.{ℕ, _-_, max}
 use mathlib.Core.Bool.{Bool, true, false}
 use mathlib.Core.List.{List, [], _∷_, _++_}
 use lib.ListN.{length, getD}
-use lib.Dec.{ltb, eqb}
+use lib.Dec.{eqb}
 use Rattle.lists.specs.Choice.{pick}
 use Rattle.lists.specs.Same.{same}
 use Rattle.signal.specs.declared.kind.SignalEncoding.{SignalEncoding}
 use Rattle.signal.specs.declared.kind.SignalEncoding.the-variants.{Absent}
 use Rattle.signal.specs.Content.{Content, happened, symbols, bits, Decoded, refuse, accept, decode}
 use Rattle.recording.specs.Calls as calls
-use Rattle.recording.specs.Calls.{Call, time, change, finish, Heard, taken, back, recorded, skipped, silent, Way, above, equal, below, wayOf}
+use Rattle.recording.specs.Calls.{Call, time, change, finish, Heard, taken, back, recorded, skipped, silent, Way, above, equal, below, wayOf, counted}
 
--- a change: its signal, the place of the last time (from 0), its content, and the larger of
--- its value's class and a raw claim
+-- a change: its signal, the place of the last time (from 0), its content, and the larger of its value's class and a raw claim
 pub record Change : Type 0 where
   pub signal : ℕ
   pub place : ℕ
@@ -49,11 +48,8 @@ tellTime h t above = told taken (history (h .times ++ t ∷ []) (h .changes) fal
 tellTime h t equal = told calls.same h
 tellTime h t below = told back (history (h .times) (h .changes) true (h .count))
 
--- with 32 bits, then the count stays at its top
-abbrev pub counted : ℕ → ℕ
-counted n = pick (ltb n 4294967295) (n + 1) n
-
--- in a skip: counted. A value that says nothing to the signal's kind (then the call is refused): nothing. Else: joins with the place of the last time, its content and its class
+-- in a skip: counted. A value that says nothing to the signal's kind (then the call is refused): nothing. Else: joins with the place of
+-- the last time, its content and its class
 abbrev pub tellChange : History → (signal : ℕ) → (skip : Bool) → Decoded → Told
 tellChange h g true d = told skipped (history (h .times) (h .changes) true (counted (h .count)))
 tellChange h g false (refuse n) = told silent h

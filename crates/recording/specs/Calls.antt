@@ -1,6 +1,6 @@
 -- Document 01, 'Recording' and 'History': the calls of a recording, and what their answers say.
 -- Assumes nothing.
-use Prim.Native.Nat.{ℕ}
+use Prim.Native.Nat.{ℕ, _+_}
 use mathlib.Core.Bool.{Bool, true, false}
 use mathlib.Core.List.{List, [], _∷_}
 use lib.Dec.{ltb, eqb}
@@ -52,3 +52,7 @@ pub data Way : Type 0 where
 unfoldable pub wayOf : List ℕ → ℕ → Way
 wayOf [] t = above
 wayOf (x ∷ l) t = pick (ltb (lastOr x l) t) above (pick (eqb t (lastOr x l)) equal below)
+
+-- the skipped changes are counted with 32 bits, then the count stays at its top
+abbrev pub counted : ℕ → ℕ
+counted n = pick (ltb n 4294967295) (n + 1) n

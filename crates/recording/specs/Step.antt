@@ -18,7 +18,7 @@ use Rattle.image.specs.Block.{Part, Block, part, block, blockBytes}
 use Rattle.image.specs.Head.{headBytes, headSize}
 use Rattle.recording.specs.declared.Encoder.{Encoder}
 use Rattle.recording.specs.declared.SignalRecord.{SignalRecord}
-use Rattle.recording.specs.Calls.{Call, time, change, finish, taken, same, back, recorded, skipped, Reply, say, started, total, Way, above, equal, below, wayOf}
+use Rattle.recording.specs.Calls.{Call, time, change, finish, taken, same, back, recorded, skipped, Reply, say, started, total, Way, above, equal, below, wayOf, counted}
 use Rattle.recording.specs.Calls as calls
 use Rattle.recording.specs.Work.{Item, item, itemBytes, itemsOf, gather}
 use Rattle.recording.specs.Memory.{Memory, memory, After, after, recordOf, recordAt, turned}
@@ -98,10 +98,6 @@ unfoldable pub timeOf : Memory → ℕ → After
 timeOf m t = turned (openTests m) m (timeBy m t (wayOf (take (m .state .held) (m .times)) t))
 
 -- ---- change
-
--- counted with 32 bits, then the count stays at its top
-abbrev pub counted : ℕ → ℕ
-counted n = pick (ltb n 4294967295) (n + 1) n
 
 abbrev pub skippedOne : Encoder → Encoder
 skippedOne s = encoder (s .closed) (s .limit) (s .signals) (s .held) (s .work) (s .image) (s .blocks) (s .skip) (counted (s .skipped))

@@ -16,7 +16,7 @@ classNumber Two = 0
 classNumber Four = 1
 classNumber Nine = 2
 
--- the enum of a class's number; numbers above 2 do not occur
+-- the enum of a class's number; a number above 2 is no class and gives Nine
 abbrev pub statesOf : ℕ → States
 statesOf zero = Two
 statesOf (suc zero) = Four
