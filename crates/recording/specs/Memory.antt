@@ -39,10 +39,20 @@ recordOf k i t = record { kind = k; index = i; top = t }
 abbrev pub recordAt : Memory → ℕ → SignalRecord
 recordAt m g = getD (m .records) g (recordOf Absent 0 Two)
 
--- refusals in their order, each with its condition: the first that holds turns the call back by its number, and all memory stays
+-- refusals in their order, each with its condition and its number
 abbrev pub Tests : Type 0
 Tests = List (Bool × ℕ)
 
-abbrev pub turned : Tests → Memory → After → After
-turned [] m e = e
-turned (t ∷ ts) m e = pick (t .0) (after (refuse (t .1)) m) (turned ts m e)
+-- the number of the first that holds; 0 where none does
+abbrev pub first : Tests → ℕ
+first [] = 0
+first (t ∷ ts) = pick (t .0) (t .1) (first ts)
+
+-- the first that holds turns the call back by its number
+abbrev pub turned : {A : Type 0} → Tests → (refused : ℕ → A) → A → A
+turned [] f e = e
+turned (t ∷ ts) f e = pick (t .0) (f (t .1)) (turned ts f e)
+
+-- a refused call answers its number only, and all memory stays
+abbrev pub refused : Memory → ℕ → After
+refused m n = after (refuse n) m

@@ -19,10 +19,9 @@ use Rattle.image.specs.Head.{headBytes, headSize}
 use Rattle.recording.specs.declared.Encoder.{Encoder}
 use Rattle.recording.specs.declared.SignalRecord.{SignalRecord}
 use Rattle.recording.specs.Calls.{Call, time, change, finish, taken, same, back, recorded, skipped, Reply, say, started, total, Way, above, equal, below, wayOf, counted}
-use Rattle.recording.specs.Calls as calls
 use Rattle.recording.specs.Work.{Item, item, itemBytes, itemsOf, gather}
-use Rattle.recording.specs.Memory.{Memory, memory, After, after, recordOf, recordAt, turned}
-use Rattle.recording.specs.TurnedBack.{startTests, openTests, earlyTests, signalTests, roomTests}
+use Rattle.recording.specs.Memory.{Memory, memory, After, after, recordOf, recordAt, turned, refused}
+use Rattle.recording.specs.TurnedBack.{unknownKind, startTests, openTests, earlyTests, signalTests, roomTests}
 
 abbrev pub encoder : (closed : Bool) (limit signals held work image blocks : ℕ) (skip : Bool) (skipped : ℕ) → Encoder
 encoder c l s h w i b k n = record { closed = c; limit = l; signals = s; held = h; work = w; image = i; blocks = b; skip = k; skipped = n }
@@ -85,7 +84,7 @@ abbrev pub skipping : Encoder → Encoder
 skipping s = encoder (s .closed) (s .limit) (s .signals) (s .held) (s .work) (s .image) (s .blocks) true (s .skipped)
 
 abbrev pub timeCut : Memory → ℕ → Cut → After
-timeCut m t (noCut n) = after (calls.refuse n) m
+timeCut m t (noCut n) = refused m n
 timeCut m t (cuts b) = after (say taken) (timed (cutIn m b) t)
 
 -- a larger time is taken, after a cut if the table already holds B times; an equal one changes nothing; a smaller one starts a skip
@@ -95,7 +94,7 @@ timeBy m t equal = after (say same) m
 timeBy m t below = after (say back) (withState m (skipping (m .state)))
 
 unfoldable pub timeOf : Memory → ℕ → After
-timeOf m t = turned (openTests m) m (timeBy m t (wayOf (take (m .state .held) (m .times)) t))
+timeOf m t = turned (openTests m) (refused m) (timeBy m t (wayOf (take (m .state .held) (m .times)) t))
 
 -- ---- change
 
@@ -115,18 +114,18 @@ recordedIn m g b c =
 
 -- d is the last time's index less the record's; a record's index beyond the last is turned back before d is used
 abbrev pub changeBy : Memory → (signal : ℕ) → Decoded → After
-changeBy m g (refuse n) = after (calls.refuse n) m
+changeBy m g (refuse n) = refused m n
 changeBy m g (accept a c) =
     let b = changeBytes (recordAt m g .kind) (m .state .held - 1 - recordAt m g .index) a in
-    turned (roomTests m g (length b)) m (after (say recorded) (recordedIn m g b c))
+    turned (roomTests (m .state) (recordAt m g) (length (m .work)) (length b)) (refused m) (after (say recorded) (recordedIn m g b c))
 
 -- 2, 10 (first group), 3, skip, 4, 5, 6, 10 (second group), 7
 unfoldable pub changeOf : Memory → (signal : ℕ) → Given → After
 changeOf m g v =
-    turned (openTests m) m
-    (turned (earlyTests m) m
+    turned (openTests m) (refused m)
+    (turned (earlyTests (m .state)) (refused m)
     (pick (m .state .skip) (after (say skipped) (withState m (skippedOne (m .state))))
-    (turned (signalTests m g) m
+    (turned (signalTests (m .state) (recordAt m g) g) (refused m)
     (changeBy m g (decode (recordAt m g .kind) v)))))
 
 -- ---- finish
@@ -138,12 +137,12 @@ abbrev pub closing : Memory → After
 closing m = after (total (m .state .image)) (withState m (closedNow (m .state)))
 
 abbrev pub finishCut : Memory → Cut → After
-finishCut m (noCut n) = after (calls.refuse n) m
+finishCut m (noCut n) = refused m n
 finishCut m (cuts b) = closing (cutIn m b)
 
 -- cuts if any time is held, and closes; it answers the total bytes
 unfoldable pub finishOf : Memory → After
-finishOf m = turned (openTests m) m (pick (eqb (m .state .held) 0) (closing m) (finishCut m (cutOf m)))
+finishOf m = turned (openTests m) (refused m) (pick (eqb (m .state .held) 0) (closing m) (finishCut m (cutOf m)))
 
 -- ---- start
 
@@ -156,7 +155,7 @@ kindIn r = r .kind
 -- a head with N = 0 and total 16 + 4S, each record's index and class 0
 unfoldable pub startOf : (limit signals : ℕ) → Memory → After
 startOf limit signals m =
-    turned (startTests limit signals (m .records) (length (m .times)) (length (m .image))) m
+    turned (startTests limit signals (length (m .records)) (unknownKind (m .records)) (length (m .times)) (length (m .image))) (refused m)
     (after started
     (memory (encoder false limit signals 0 0 (headSize signals) 0 false 0)
     (map fresh (m .records)) (m .times) (m .work)

@@ -11,7 +11,7 @@ use Rattle.signal.specs.Kind.{knownKind}
 use Rattle.image.specs.Head.{headSize}
 use Rattle.recording.specs.declared.Encoder.{Encoder}
 use Rattle.recording.specs.declared.SignalRecord.{SignalRecord}
-use Rattle.recording.specs.Memory.{Memory, recordAt, Tests}
+use Rattle.recording.specs.Memory.{Memory, Tests}
 
 -- B is 2..65,535
 abbrev pub outside : ℕ → Bool
@@ -25,33 +25,36 @@ unfoldable pub unknownKind : List SignalRecord → Bool
 unknownKind [] = false
 unknownKind (r ∷ rs) = not (knownKind (r .kind)) || unknownKind rs
 
--- whoever starts: 1
-unfoldable pub startTests : (limit signals : ℕ) → List SignalRecord → (times image : ℕ) → Tests
-startTests limit signals records times image =
+-- whoever starts: 1, by the count of records, whether a kind among them is unknown, and the lengths of the lent memory
+unfoldable pub startTests : (limit signals records : ℕ) → (unknown : Bool) → (times image : ℕ) → Tests
+startTests limit signals records unknown times image =
     (outside limit, 1)
     ∷ (ltb times limit, 1)
-    ∷ (ltb 65536 signals || not (eqb signals (length records)), 1)
-    ∷ (unknownKind records, 1)
+    ∷ (ltb 65536 signals || not (eqb signals records), 1)
+    ∷ (unknown, 1)
     ∷ (ltb image (headSize signals) || ltb imageLimit image, 1)
     ∷ []
 
--- 2, and the first group of 10
-unfoldable pub openTests : Memory → Tests
-openTests m =
-    (m .state .closed, 2)
-    ∷ (outside (m .state .limit), 10)
-    ∷ (ltb (m .state .limit) (m .state .held), 10)
-    ∷ (ltb (length (m .times)) (m .state .limit), 10)
-    ∷ (ltb (length (m .work)) (m .state .work) || ltb (length (m .image)) (m .state .image), 10)
-    ∷ (ltb imageLimit (length (m .image)), 10)
-    ∷ (ltb (m .state .image) (m .state .blocks), 10)
-    ∷ (not (eqb (m .state .signals) (length (m .records))), 10)
-    ∷ (ltb 0 (m .state .work) && eqb (m .state .held) 0, 10)
+-- 2, and the first group of 10, by the lengths of the lent memory
+unfoldable pub stateTests : Encoder → (records times work image : ℕ) → Tests
+stateTests s records times work image =
+    (s .closed, 2)
+    ∷ (outside (s .limit), 10)
+    ∷ (ltb (s .limit) (s .held), 10)
+    ∷ (ltb times (s .limit), 10)
+    ∷ (ltb work (s .work) || ltb image (s .image), 10)
+    ∷ (ltb imageLimit image, 10)
+    ∷ (ltb (s .image) (s .blocks), 10)
+    ∷ (not (eqb (s .signals) records), 10)
+    ∷ (ltb 0 (s .work) && eqb (s .held) 0, 10)
     ∷ []
 
+abbrev pub openTests : Memory → Tests
+openTests m = stateTests (m .state) (length (m .records)) (length (m .times)) (length (m .work)) (length (m .image))
+
 -- 3, a change before any time
-abbrev pub earlyTests : Memory → Tests
-earlyTests m = (eqb (m .state .held) 0, 3) ∷ []
+abbrev pub earlyTests : Encoder → Tests
+earlyTests s = (eqb (s .held) 0, 3) ∷ []
 
 abbrev pub absent : SignalEncoding → Bool
 absent (BitVector w) = false
@@ -59,12 +62,12 @@ absent Real = false
 absent Absent = true
 
 -- 4, number at or above S, or absent
-abbrev pub signalTests : Memory → (signal : ℕ) → Tests
-signalTests m g = (leb (m .state .signals) g || absent (recordAt m g .kind), 4) ∷ []
+abbrev pub signalTests : Encoder → SignalRecord → (signal : ℕ) → Tests
+signalTests s r g = (leb (s .signals) g || absent (r .kind), 4) ∷ []
 
--- the second group of 10, and 7, for a change of n stream bytes
-abbrev pub roomTests : Memory → (signal n : ℕ) → Tests
-roomTests m g n =
-    (ltb (m .state .held - 1) (recordAt m g .index) || not (knownKind (recordAt m g .kind)), 10)
-    ∷ (ltb (length (m .work)) (m .state .work + (8 + n)), 7)
+-- the second group of 10 (the record's index beyond the last, or its width over 65,536), and 7, for a change of n stream bytes
+abbrev pub roomTests : Encoder → SignalRecord → (work n : ℕ) → Tests
+roomTests s r work n =
+    (ltb (s .held - 1) (r .index) || not (knownKind (r .kind)), 10)
+    ∷ (ltb work (s .work + (8 + n)), 7)
     ∷ []

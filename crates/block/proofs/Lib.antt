@@ -1,0 +1,10 @@
+pub mod BeginLaws
+pub mod BlockLaws
+pub mod CountLaws
+pub mod LayoutLaws
+pub mod PassLaws
+pub mod Passes
+pub mod ScatterLaws
+pub mod SettleLaws
+pub mod SizeLaws
+pub mod SlotLaws

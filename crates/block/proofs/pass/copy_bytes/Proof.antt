@@ -1,0 +1,75 @@
+-- The loop's invariant: what is left of the bytes, written from to + i on, gives what all of them give, written from `to` on. The measure
+-- is what is left of n.
+-- Assumes nothing.
+use Prim.Native.Nat.{suc, _+_, _-_, _≤_}
+use mathlib.Core.Path.{_≡_, refl}
+use native.Mathlib.Omega.{arith}
+use native.Mathlib.Nat.{add-zero, sub-zero}
+use lib.ListN.{length, take, drop, length-set}
+use lib.Seq.{sets}
+use Rattle.block.proofs.PassLaws.{part-more}
+use Rattle.block.proofs.pass.copy_bytes.Statement.{statement}
+use Rattle.block.proofs.pass.copy_bytes.Tie as tie
+
+abbrev Inv-loop : tie.InvT-loop
+Inv-loop tail₀ to src from n i₀ tail i = (i ≤ n) × (length tail ≡ length tail₀) × (sets tail (to + i) (take (n - i) (drop (from + i) src)) ≡ sets tail₀ to (take n (drop from src)))
+
+abbrev μ-loop : tie.MeasureT-loop
+μ-loop tail₀ to src from n i₀ tail i = n - i
+
+loop-holds : tie.Need-loop-holds Inv-loop μ-loop
+loop-holds c = (omega arith, refl, simp (add-zero, sub-zero))
+
+add-tail : tie.Need-add-tail Inv-loop μ-loop
+add-tail c = omega arith
+
+shared-slice-read-tail : tie.Need-shared-slice-read-tail Inv-loop μ-loop
+shared-slice-read-tail c = omega arith
+
+add-tail-2 : tie.Need-add-tail-2 Inv-loop μ-loop
+add-tail-2 c = omega arith
+
+slice-write-tail : tie.Need-slice-write-tail Inv-loop μ-loop
+slice-write-tail c = omega arith
+
+add-i : tie.Need-add-i Inv-loop μ-loop
+add-i c = omega arith
+
+loop-less : tie.Need-loop-less Inv-loop μ-loop
+loop-less c = omega arith
+
+loop-again : tie.Need-loop-again Inv-loop μ-loop
+loop-again c =
+    let l = c .before .before .loop in
+    let a = c .before .before .before .args in
+    let i1 : a .to + (l .i + 1) ≡ suc (a .to + l .i) = omega arith in
+    let f1 : a .from + (l .i + 1) ≡ suc (a .from + l .i) = omega arith in
+    let n1 : a .n - l .i ≡ suc (a .n - (l .i + 1)) = omega arith in
+    let e = part-more (a .n - (l .i + 1)) (a .from + l .i) (a .src .now) (omega arith) in
+    (omega arith, simp length-set (l .inv .1), rw (i1, f1, ← (l .inv .2), n1, e) refl)
+
+same-length : tie.Need-same-length Inv-loop μ-loop
+same-length c = c .before .loop .inv .1
+
+returns : tie.Need-returns Inv-loop μ-loop
+returns c =
+    let l = c .before .loop in
+    let z : c .before .before .args .n - l .i ≡ 0 = omega arith in
+    rw (← (l .inv .2), z) refl
+
+pub copy-bytes-spec : {M : Type 1} → statement M
+copy-bytes-spec =
+    tie.close
+    (tie.spec
+    Inv-loop
+    μ-loop
+    loop-holds
+    add-tail
+    shared-slice-read-tail
+    add-tail-2
+    slice-write-tail
+    add-i
+    loop-less
+    loop-again
+    same-length
+    returns)

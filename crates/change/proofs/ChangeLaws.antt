@@ -1,0 +1,52 @@
+-- A change of the whole memory is one of its signal's record, the state and the work buffer.
+-- Assumes nothing.
+use Prim.Native.Nat.{ℕ, zero, suc, _-_}
+use mathlib.Core.Path.{_≡_, refl, sym}
+use mathlib.Core.Bool.{Bool, true, false}
+use mathlib.Core.List.{List, [], _∷_}
+use lib.ListN.{length, getD, set}
+use Rattle.lists.specs.Choice.{pick}
+use Rattle.signal.specs.Content.{Given, Decoded, refuse, accept, decode}
+use Rattle.stream.specs.Stream.{changeBytes}
+use Rattle.recording.specs.Memory.{Memory, memory, After, after, recordAt, Tests, turned, refused}
+use Rattle.recording.specs.TurnedBack.{openTests, earlyTests, signalTests, roomTests}
+use Rattle.recording.specs.Step.{changeBy, changeOf}
+use Rattle.change.specs.Found.{Found, foundRefused, foundDone, foundBy, foundOf, afterChange}
+
+set-same : {A : Type 0} (l : List A) (g : ℕ) (d : A) → set l g (getD l g d) ≡ l
+set-same [] g d = refl
+set-same (x ∷ l) zero d = refl
+set-same (x ∷ l) (suc g) d = rw (set-same l g d) refl
+
+module _ (m : Memory) (g : ℕ) where
+  abbrev stays : ℕ → Found
+  stays n = foundRefused (m .state) (recordAt m g) (m .work) n
+
+  refused-whole : (n : ℕ) → afterChange m g (stays n) ≡ refused m n
+  refused-whole n = rw (set-same (m .records) g _) refl
+
+  picked-whole : (b : Bool) (x y : Found) {p q : After} → afterChange m g x ≡ p → afterChange m g y ≡ q → afterChange m g (pick b x y) ≡ pick b p q
+  picked-whole true x y e f = e
+  picked-whole false x y e f = f
+
+  turned-whole : (ts : Tests) (e : Found) {e′ : After} → afterChange m g e ≡ e′ → afterChange m g (turned ts stays e) ≡ turned ts (refused m) e′
+  turned-whole [] e h = h
+  turned-whole (t ∷ ts) e h = picked-whole (t .0) _ _ (refused-whole (t .1)) (turned-whole ts e h)
+
+  by-whole : (d : Decoded) → afterChange m g (foundBy (m .state) (recordAt m g) (m .work) g d) ≡ changeBy m g d
+  unfolding foundBy
+  by-whole (refuse n) = refused-whole n
+  by-whole (accept a c) =
+      let r = recordAt m g in
+      let b = changeBytes (r .kind) (m .state .held - 1 - r .index) a in
+      turned-whole (roomTests (m .state) r (length (m .work)) (length b)) (foundDone (m .state) r (m .work) g b c) refl
+
+  pub change-found : (v : Given)
+      → changeOf m g v ≡ afterChange m g (foundOf (m .state) (recordAt m g) (length (m .records)) (length (m .times)) (length (m .image)) (m .work) g v)
+  unfolding changeOf foundOf
+  change-found v =
+      sym
+      (turned-whole (openTests m) _
+      (turned-whole (earlyTests (m .state)) _
+      (picked-whole (m .state .skip) _ _ (rw (set-same (m .records) g _) refl)
+      (turned-whole (signalTests (m .state) (recordAt m g) g) _ (by-whole (decode (recordAt m g .kind) v))))))

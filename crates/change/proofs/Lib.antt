@@ -1,0 +1,3 @@
+pub mod NotationLaws
+pub mod FoundLaws
+pub mod ChangeLaws

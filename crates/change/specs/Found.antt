@@ -1,0 +1,67 @@
+-- What a change does to the state, to its signal's record and to the work buffer: `changeOf` (crate recording) as far as it concerns
+-- them (proofs/FoundLaws).
+-- Assumes nothing.
+use Prim.Native.Nat.{ℕ, _+_, _-_, max}
+use mathlib.Core.Bool.{Bool}
+use mathlib.Core.List.{List}
+use lib.ListN.{length, set}
+use lib.Seq.{sets}
+use Rattle.lists.specs.Choice.{pick}
+use Rattle.value.specs.Class.{classNumber, statesOf}
+use Rattle.signal.specs.Content.{Given, vcd, raw, real, Decoded, refuse, accept, decode}
+use Rattle.stream.specs.Stream.{changeBytes}
+use Rattle.recording.specs.declared.Encoder.{Encoder}
+use Rattle.recording.specs.declared.SignalRecord.{SignalRecord}
+use Rattle.recording.specs.Calls as calls
+use Rattle.recording.specs.Calls.{Reply, say, recorded, skipped}
+use Rattle.recording.specs.Work.{item, itemBytes}
+use Rattle.recording.specs.Memory.{Memory, memory, After, after, recordOf, turned}
+use Rattle.recording.specs.TurnedBack.{stateTests, earlyTests, signalTests, roomTests}
+use Rattle.recording.specs.Step.{encoder, skippedOne}
+use Rattle.change.specs.declared.notation.Value.{Value}
+use Rattle.change.specs.declared.notation.Value.the-variants as value
+
+-- what is given by a value's notation and its bytes
+abbrev pub givenOf : Value → List ℕ → Given
+givenOf value.Vcd s = vcd s
+givenOf (value.Raw c) s = raw c s
+givenOf (value.Real b) s = real b
+
+pub record Found : Type 0 where
+  pub reply : Reply
+  pub state : Encoder
+  pub kept : SignalRecord
+  pub work : List ℕ
+
+abbrev pub found : Reply → Encoder → SignalRecord → List ℕ → Found
+found a s r w = record { reply = a; state = s; kept = r; work = w }
+
+abbrev pub working : Encoder → (n : ℕ) → Encoder
+working s n = encoder (s .closed) (s .limit) (s .signals) (s .held) (s .work + n) (s .image) (s .blocks) (s .skip) (s .skipped)
+
+abbrev pub risen : Encoder → SignalRecord → (c : ℕ) → SignalRecord
+risen s r c = recordOf (r .kind) (s .held - 1) (statesOf (max (classNumber (r .top)) c))
+
+abbrev pub foundRefused : Encoder → SignalRecord → List ℕ → ℕ → Found
+foundRefused s r w n = found (calls.refuse n) s r w
+
+abbrev pub foundDone : Encoder → SignalRecord → List ℕ → (signal : ℕ) → (stream : List ℕ) → (c : ℕ) → Found
+foundDone s r w g b c = found (say recorded) (working s (8 + length b)) (risen s r c) (sets w (s .work) (itemBytes (item g b)))
+
+unfoldable pub foundBy : Encoder → SignalRecord → List ℕ → (signal : ℕ) → Decoded → Found
+foundBy s r w g (refuse n) = foundRefused s r w n
+foundBy s r w g (accept a c) =
+    let b = changeBytes (r .kind) (s .held - 1 - r .index) a in
+    turned (roomTests s r (length w) (length b)) (foundRefused s r w) (foundDone s r w g b c)
+
+unfoldable pub foundOf : Encoder → SignalRecord → (records times image : ℕ) → (work : List ℕ) → (signal : ℕ) → Given → Found
+foundOf s r records times image w g v =
+    turned (stateTests s records times (length w) image) (foundRefused s r w)
+    (turned (earlyTests s) (foundRefused s r w)
+    (pick (s .skip) (found (say skipped) (skippedOne s) r w)
+    (turned (signalTests s r g) (foundRefused s r w)
+    (foundBy s r w g (decode (r .kind) v)))))
+
+-- the memory after a change: of the records only the signal's differs
+abbrev pub afterChange : Memory → (signal : ℕ) → Found → After
+afterChange m g f = after (f .reply) (memory (f .state) (set (m .records) g (f .kept)) (m .times) (f .work) (m .image))

@@ -1,0 +1,57 @@
+-- Laws of a table of refusals: what the number of the first that holds says.
+-- Assumes nothing.
+use Prim.Native.Nat.{ℕ, _<_}
+use mathlib.Core.Path.{_≡_, refl}
+use mathlib.Core.Bool.{Bool, true, false, _&&_}
+use mathlib.Core.List.{List, [], _∷_}
+use native.Mathlib.Omega.{arith}
+use borrow.Author.Tests.{lt-ltb, le-ltb, le-leb, lt-leb, eq-eqb, ne-eqb}
+use lib.Dec.{ltb, T, ltb→lt}
+use Rattle.lists.specs.Choice.{pick}
+use Rattle.recording.specs.Memory.{Tests, first, turned}
+
+pub ruleset tests = (lt-ltb, le-ltb, le-leb, lt-leb, eq-eqb, ne-eqb)
+
+abbrev pub AllFalse : Tests → Type 0
+AllFalse [] = Unit {0}
+AllFalse (t ∷ ts) = (t .0 ≡ false) × AllFalse ts
+
+-- every number is positive
+abbrev pub positive : Tests → Bool
+positive [] = true
+positive (t ∷ ts) = ltb 0 (t .1) && positive ts
+
+past : (t : Bool) (m r : ℕ) → T (ltb 0 m) → pick t m r ≡ 0 → (t ≡ false) × (r ≡ 0)
+past true m r p e = let q = ltb→lt 0 m p in absurd (omega arith)
+past false m r p e = (refl, e)
+
+and-left : (a b : Bool) → T (a && b) → T a
+and-left true b t = tt
+and-left false b t = t
+
+and-right : (a b : Bool) → T (a && b) → T b
+and-right true b t = t
+and-right false b t = absurd t
+
+pub none-of : (ts : Tests) → T (positive ts) → first ts ≡ 0 → AllFalse ts
+none-of [] p e = tt
+none-of (t ∷ ts) p e =
+    let q = past (t .0) (t .1) (first ts) (and-left (ltb 0 (t .1)) (positive ts) p) e in
+    (q .0, none-of ts (and-right (ltb 0 (t .1)) (positive ts) p) (q .1))
+
+-- no refusal
+pub turned-none : {A : Type 0} (ts : Tests) (f : ℕ → A) (e : A) → T (positive ts) → first ts ≡ 0 → turned ts f e ≡ e
+turned-none [] f e p z = refl
+turned-none (t ∷ ts) f e p z =
+    let q = past (t .0) (t .1) (first ts) (and-left (ltb 0 (t .1)) (positive ts) p) z in
+    rw (q .0) (turned-none ts f e (and-right (ltb 0 (t .1)) (positive ts) p) (q .1))
+
+-- a refusal by its number
+pub turned-first : {A : Type 0} (ts : Tests) (f : ℕ → A) (e : A) → (first ts ≡ 0 → ⊥) → turned ts f e ≡ f (first ts)
+turned-first [] f e n = absurd (n refl)
+turned-first (t ∷ ts) f e n = by (t .0) n (turned-first ts f e)
+  where
+    by : (b : Bool) → (pick b (t .1) (first ts) ≡ 0 → ⊥) → ((first ts ≡ 0 → ⊥) → turned ts f e ≡ f (first ts))
+        → pick b (f (t .1)) (turned ts f e) ≡ f (pick b (t .1) (first ts))
+    by true m k = refl
+    by false m k = k m

@@ -1,0 +1,64 @@
+use borrow.Author.Tests.{lt-ltb, le-ltb, le-leb, lt-leb, eq-eqb, ne-eqb}
+use Rattle.recording.specs.TurnedBack.{startTests}
+use Rattle.refusals.proofs.TestsLaws.{tests}
+use borrow.Author.Needs.{needs}
+use Rattle.refusals.proofs.start_refusal.Statement.{statement}
+use Rattle.refusals.proofs.start_refusal.Tie as tie
+
+mul-if7 : tie.Need-mul-if7
+mul-if7 c = search needs
+
+add-if7 : tie.Need-add-if7
+add-if7 c = search needs
+
+returns : tie.Need-returns
+unfolding startTests
+returns c = search (tests)
+
+returns-2 : tie.Need-returns-2
+unfolding startTests
+returns-2 c = search (tests)
+
+returns-3 : tie.Need-returns-3
+unfolding startTests
+returns-3 c = search (tests)
+
+returns-4 : tie.Need-returns-4
+unfolding startTests
+returns-4 c = search (tests)
+
+returns-5 : tie.Need-returns-5
+unfolding startTests
+returns-5 c = search (tests)
+
+returns-6 : tie.Need-returns-6
+unfolding startTests
+returns-6 c = search (tests, c .if6 .taken)
+
+returns-7 : tie.Need-returns-7
+unfolding startTests
+returns-7 c = search (tests, c .before .before .if6 .left)
+
+returns-8 : tie.Need-returns-8
+unfolding startTests
+returns-8 c = search (tests, c .before .before .before .before .if6 .left)
+
+returns-9 : tie.Need-returns-9
+unfolding startTests
+returns-9 c = search (tests, c .before .before .before .before .if6 .left)
+
+pub start-refusal-spec : {M : Type 1} → statement M
+start-refusal-spec =
+    tie.close
+    (tie.spec
+    mul-if7
+    add-if7
+    returns
+    returns-2
+    returns-3
+    returns-4
+    returns-5
+    returns-6
+    returns-7
+    returns-8
+    returns-9)

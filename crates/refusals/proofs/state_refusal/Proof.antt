@@ -1,0 +1,55 @@
+use mathlib.Core.Path.{sym, _∙_}
+use native.Mathlib.Omega.{arith}
+use borrow.Author.Tests.{lt-ltb, le-ltb, le-leb, lt-leb, eq-eqb, ne-eqb}
+use Rattle.recording.specs.TurnedBack.{stateTests}
+use Rattle.refusals.proofs.StateLaws.{limits-past}
+use Rattle.refusals.proofs.TestsLaws.{tests}
+use borrow.Author.Needs.{needs}
+use Rattle.refusals.proofs.state_refusal.Statement.{statement}
+use Rattle.refusals.proofs.state_refusal.Tie as tie
+
+cast-if5 : tie.Need-cast-if5
+cast-if5 c = search needs
+
+counts-refusal-requires : tie.Need-counts-refusal-requires
+counts-refusal-requires c κs = search needs
+
+returns : tie.Need-returns
+unfolding stateTests
+returns c = search (tests, c .if1 .taken)
+
+returns-2 : tie.Need-returns-2
+unfolding stateTests
+returns-2 c = search (tests, c .before .before .if1 .left)
+
+returns-3 : tie.Need-returns-3
+unfolding stateTests
+returns-3 c = search (tests, c .before .before .before .before .if1 .left)
+
+returns-4 : tie.Need-returns-4
+unfolding stateTests
+returns-4 c = search (tests, c .before .before .before .before .before .before .if1 .left)
+
+returns-5 : tie.Need-returns-5
+unfolding stateTests
+returns-5 c = search (tests, c .before .before .before .before .before .before .before .before .before .if1 .left)
+
+returns-6 : tie.Need-returns-6
+returns-6 c =
+    let a = c .before .before .before .before .before .before .before .before .before .before .before .args in
+    let s = a .state in
+    let past = limits-past s (a .lent .records) (a .lent .times) (a .work) (a .lent .image) (c .before .before .before .before .before .before .before .before .before .before .if1 .left) (omega arith) (omega arith) (omega arith) (omega arith) in
+    c .counts-refusal .ensures ∙ sym past
+
+pub state-refusal-spec : {M : Type 1} → statement M
+state-refusal-spec =
+    tie.close
+    (tie.spec
+    cast-if5
+    counts-refusal-requires
+    returns
+    returns-2
+    returns-3
+    returns-4
+    returns-5
+    returns-6)

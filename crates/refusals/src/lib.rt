@@ -1,0 +1,83 @@
+// The refusals of the recorder that depend on numbers alone: the state and the lengths of the lent memory. Document 01, 'Turned back'.
+//
+// Each function answers the number of the first refusal that holds, 0 where none does; the contracts cite the tables of
+// recording/specs/TurnedBack.antt.
+use recording::Encoder;
+ghost use mathlib.Core.Path.{_≡_};
+ghost use lib.ListN.{drop};
+ghost use Rattle.recording.specs.Memory.{first};
+ghost use Rattle.recording.specs.TurnedBack.{startTests, stateTests};
+
+// The lengths of the memory that is lent to a call, but for the work buffer's.
+pub struct Lent {
+    pub records: usize,
+    pub times: usize,
+    pub image: usize,
+}
+
+// 1: what is not lawful in a start. unknown tells of a record whose kind is unknown.
+pub fn start_refusal(limit: u32, signals: u32, unknown: bool, lent: Lent) -> u32
+    ensures { λ r. ⌜ r ≡ first (startTests limit signals (lent .records) unknown (lent .times) (lent .image)) ⌝ }
+{
+    if limit < 2 {
+        1
+    } else if 65535 < limit {
+        1
+    } else if lent.times < limit as usize {
+        1
+    } else if 65536 < signals {
+        1
+    } else if signals as usize != lent.records {
+        1
+    } else if unknown {
+        1
+    } else if lent.image < 16 + 4 * signals as usize {
+        1
+    } else if 1073741824 < lent.image {
+        1
+    } else {
+        0
+    }
+}
+
+// The first group of 10, from the used bytes on.
+fn counts_refusal(state: Encoder, lent: Lent, work: usize) -> u32
+    ensures { λ r. ⌜ r ≡ first (drop 4 (stateTests state (lent .records) (lent .times) work (lent .image))) ⌝ }
+{
+    if (work as u64) < state.work {
+        10
+    } else if lent.image < state.image as usize {
+        10
+    } else if 1073741824 < lent.image {
+        10
+    } else if state.image < state.blocks {
+        10
+    } else if state.signals as usize != lent.records {
+        10
+    } else if state.work <= 0 {
+        0
+    } else if state.held == 0 {
+        10
+    } else {
+        0
+    }
+}
+
+// 2, and the first group of 10: what no call of the recorder leaves.
+pub fn state_refusal(state: Encoder, lent: Lent, work: usize) -> u32
+    ensures { λ r. ⌜ r ≡ first (stateTests state (lent .records) (lent .times) work (lent .image)) ⌝ }
+{
+    if state.closed {
+        2
+    } else if state.limit < 2 {
+        10
+    } else if 65535 < state.limit {
+        10
+    } else if state.limit < state.held {
+        10
+    } else if lent.times < state.limit as usize {
+        10
+    } else {
+        counts_refusal(state, lent, work)
+    }
+}

@@ -1,0 +1,173 @@
+-- Records and their numbers are inverse; reading, storing and changing records in a list of their numbers.
+-- Assumes nothing.
+use Prim.Native.Nat.{ℕ, zero, suc, _+_, _*_, _/_, _%_, _^_, _≤_, _<_}
+use mathlib.Core.Path.{_≡_, refl, sym, ap, ap₂, _∙_}
+use mathlib.Core.Bool.{Bool, true, false, not, _||_}
+use mathlib.Core.List.{List, [], _∷_, map}
+use native.Mathlib.Omega.{arith}
+use borrow.Author.Tests.{eqb-true, eq-eqb, ne-eqb}
+use lib.Dec.{eqb}
+use lib.ListN.{length, getD, set, drop}
+use lib.Seq.{drop-cons}
+use Rattle.lists.specs.Choice.{pick}
+use Rattle.value.specs.Class.{classNumber, statesOf}
+use Rattle.value.proofs.ClassLaws.{number-states, states-number, number-small}
+use Rattle.value.specs.declared.states.States.{States}
+use Rattle.value.specs.declared.states.States.the-variants.{Two}
+use Rattle.signal.specs.Kind.{knownKind}
+use Rattle.signal.specs.declared.kind.SignalEncoding.the-variants.{BitVector, Real, Absent}
+use Rattle.image.specs.Head.{kindNumber}
+use Rattle.recording.specs.declared.SignalRecord.{SignalRecord}
+use Rattle.recording.specs.Memory.{recordOf}
+use Rattle.recording.specs.Step.{fresh, rewound}
+use Rattle.recording.specs.TurnedBack.{unknownKind}
+use Rattle.storage.specs.Storage.{kindFrom, recordFrom, numberFrom, recordsOf, Storable}
+
+-- ---- one record
+
+pub kind-number : (n : ℕ) → kindNumber (kindFrom n) ≡ n
+kind-number n = by-absent (eqb n 0xffffffff) refl
+  where
+    by-real : (t : Bool) → eqb n 0xfffffffe ≡ t → kindNumber (pick t Real (BitVector n)) ≡ n
+    by-real true e = sym (eqb-true n 0xfffffffe e)
+    by-real false e = refl
+
+    by-absent : (t : Bool) → eqb n 0xffffffff ≡ t → kindNumber (pick t Absent (pick (eqb n 0xfffffffe) Real (BitVector n))) ≡ n
+    by-absent true e = sym (eqb-true n 0xffffffff e)
+    by-absent false e = by-real (eqb n 0xfffffffe) refl
+
+-- the kind of a number, a law for each
+pub kind-absent : (n : ℕ) → n ≡ 0xffffffff → Absent ≡ kindFrom n
+kind-absent n e = rw (eq-eqb n 0xffffffff e) refl
+
+pub kind-real : (n : ℕ) → n ≡ 0xfffffffe → Real ≡ kindFrom n
+kind-real n e = rw e refl
+
+pub kind-width : (n : ℕ) → (n ≡ 0xffffffff → ⊥) → (n ≡ 0xfffffffe → ⊥) → BitVector n ≡ kindFrom n
+kind-width n a b = rw (ne-eqb n 0xffffffff a, ne-eqb n 0xfffffffe b) refl
+
+-- the class of a number
+class-number : (n : ℕ) → classNumber (statesOf (n % 3)) ≡ n % 3
+class-number n = number-states (n % 3) (omega arith)
+
+pub record-number : (r : SignalRecord) → Storable r → recordFrom (numberFrom r) ≡ r
+unfolding recordFrom numberFrom
+record-number r s =
+    let k : ℕ = kindNumber (r .kind) in
+    let h : ℕ = 3 * r .index + classNumber (r .top) in
+    let low : (k + 4294967296 * h) % 4294967296 ≡ k = omega (arith, s .1) in
+    let high : (k + 4294967296 * h) / 4294967296 ≡ h = omega (arith, s .1) in
+    let index : h / 3 ≡ r .index = omega (arith, number-small (r .top)) in
+    let class : h % 3 ≡ classNumber (r .top) = omega (arith, number-small (r .top)) in
+    rw (low, high, index, class, s .0, states-number (r .top)) refl
+
+pub number-record : (n : ℕ) → numberFrom (recordFrom n) ≡ n
+unfolding recordFrom numberFrom
+number-record n = rw (kind-number (n % 4294967296), class-number (n / 4294967296)) (omega arith)
+
+pub stored : (n : ℕ) → n < 2 ^ 64 → Storable (recordFrom n)
+unfolding recordFrom
+stored n h =
+    let e = kind-number (n % 4294967296) in
+    (ap kindFrom e, rw e (omega arith), rw (class-number (n / 4294967296)) (omega arith))
+
+-- a storable record with another index and class
+pub storable-with : (r : SignalRecord) (i : ℕ) (t : States) → Storable r → 3 * i + 2 < 4294967296 → Storable (recordOf (r .kind) i t)
+storable-with r i t s h = (s .0, s .1, omega (arith, number-small t))
+
+pub storable-absent : Storable (recordOf Absent 0 Two)
+storable-absent = (refl, omega arith, omega arith)
+
+pub storable-fresh : (r : SignalRecord) → Storable r → Storable (fresh r)
+storable-fresh r s = storable-with r 0 Two s (omega arith)
+
+pub storable-rewound : (r : SignalRecord) → Storable r → Storable (rewound r)
+storable-rewound r s = storable-with r 0 (r .top) s (omega arith)
+
+pub number-lt : (r : SignalRecord) → Storable r → numberFrom r < 2 ^ 64
+unfolding numberFrom
+number-lt r s = omega (arith, s .1, s .2)
+
+-- ---- a list of numbers
+
+numbers-records : (l : List ℕ) → map numberFrom (recordsOf l) ≡ l
+numbers-records [] = refl
+numbers-records (n ∷ l) = ap₂ _∷_ (number-record n) (numbers-records l)
+
+-- no two lists of numbers are the same records
+pub records-same : (a b : List ℕ) → recordsOf a ≡ recordsOf b → a ≡ b
+records-same a b e = sym (numbers-records a) ∙ ap (map numberFrom) e ∙ numbers-records b
+
+pub records-length : (l : List ℕ) → length (recordsOf l) ≡ length l
+records-length [] = refl
+records-length (n ∷ l) = ap suc (records-length l)
+
+pub records-get : (l : List ℕ) (i : ℕ) (d : SignalRecord) → i < length l → getD (recordsOf l) i d ≡ recordFrom (getD l i 0)
+records-get [] i d h = absurd (omega arith)
+records-get (n ∷ l) zero d h = refl
+records-get (n ∷ l) (suc i) d h = records-get l i d (omega arith)
+
+pub records-past : (l : List ℕ) (i : ℕ) (d : SignalRecord) → length l ≤ i → getD (recordsOf l) i d ≡ d
+records-past [] i d h = refl
+records-past (n ∷ l) zero d h = absurd (omega arith)
+records-past (n ∷ l) (suc i) d h = records-past l i d (omega arith)
+
+pub records-set : (l : List ℕ) (i n : ℕ) → recordsOf (set l i n) ≡ set (recordsOf l) i (recordFrom n)
+records-set [] i n = refl
+records-set (x ∷ l) zero n = refl
+records-set (x ∷ l) (suc i) n = ap (λ (t : List SignalRecord). recordFrom x ∷ t) (records-set l i n)
+
+-- a record's number is stored
+pub record-stored : (l : List ℕ) (i n : ℕ) (r : SignalRecord) → Storable r → n ≡ numberFrom r → recordsOf (set l i n) ≡ set (recordsOf l) i r
+record-stored l i n r s e = records-set l i n ∙ ap (set (recordsOf l) i) (ap recordFrom e ∙ record-number r s)
+
+-- ---- a change of every record, from the first on
+
+-- what a loop that has changed i of them makes of the list
+unfoldable pub restBy : (SignalRecord → SignalRecord) → ℕ → List SignalRecord → List SignalRecord
+restBy f zero l = map f l
+restBy f (suc i) [] = []
+restBy f (suc i) (r ∷ l) = r ∷ restBy f i l
+
+pub rest-none : (f : SignalRecord → SignalRecord) (l : List SignalRecord) → restBy f 0 l ≡ map f l
+unfolding restBy
+rest-none f l = refl
+
+pub rest-all : (f : SignalRecord → SignalRecord) (i : ℕ) (l : List SignalRecord) → length l ≤ i → restBy f i l ≡ l
+unfolding restBy
+rest-all f zero [] h = refl
+rest-all f zero (r ∷ l) h = absurd (omega arith)
+rest-all f (suc i) [] h = refl
+rest-all f (suc i) (r ∷ l) h = ap (λ (t : List SignalRecord). r ∷ t) (rest-all f i l (omega arith))
+
+rest-next : (f : SignalRecord → SignalRecord) (i : ℕ) (l : List SignalRecord) (d : SignalRecord) → i < length l
+    → restBy f (suc i) (set l i (f (getD l i d))) ≡ restBy f i l
+unfolding restBy
+rest-next f i [] d h = absurd (omega arith)
+rest-next f zero (r ∷ l) d h = refl
+rest-next f (suc i) (r ∷ l) d h = ap (λ (t : List SignalRecord). r ∷ t) (rest-next f i l d (omega arith))
+
+-- a turn of the loop: r is the changed record, n its number
+pub rest-turn : (f : SignalRecord → SignalRecord) (l : List ℕ) (i n : ℕ) (r : SignalRecord) → i < length l
+    → r ≡ f (recordFrom (getD l i 0)) → Storable r → n ≡ numberFrom r
+    → restBy f (suc i) (recordsOf (set l i n)) ≡ restBy f i (recordsOf l)
+rest-turn f l i n r h e s k =
+    let d : SignalRecord = recordOf Absent 0 Two in
+    let g : r ≡ f (getD (recordsOf l) i d) = e ∙ ap f (sym (records-get l i d h)) in
+    let m : i < length (recordsOf l) = rw (records-length l) h in
+    ap (restBy f (suc i)) (record-stored l i n r s k ∙ ap (set (recordsOf l) i) g) ∙ rest-next f i (recordsOf l) d m
+
+-- ---- an unknown kind
+
+pub unknown-none : (l : List ℕ) (i : ℕ) → length l ≤ i → unknownKind (recordsOf (drop i l)) ≡ false
+unfolding unknownKind
+unknown-none [] zero h = refl
+unknown-none [] (suc i) h = refl
+unknown-none (n ∷ l) zero h = absurd (omega arith)
+unknown-none (n ∷ l) (suc i) h = unknown-none l i (omega arith)
+
+-- r is the record at i, t says that its kind is known
+pub unknown-next : (l : List ℕ) (i : ℕ) (r : SignalRecord) (t : Bool) → i < length l → r ≡ recordFrom (getD l i 0) → t ≡ knownKind (r .kind)
+    → unknownKind (recordsOf (drop i l)) ≡ (not t || unknownKind (recordsOf (drop (suc i) l)))
+unfolding unknownKind
+unknown-next l i r t h e k = rw (drop-cons l i 0 h, k, e) refl

@@ -1,0 +1,33 @@
+-- How a signal's record is stored as a number of 64 bits: its kind's number, and above that three times its index plus its class.
+-- Every number of 64 bits is a record, and no two are the same one (proofs/StorageLaws).
+-- Assumes nothing.
+use Prim.Native.Nat.{ℕ, _+_, _*_, _/_, _%_, _<_}
+use mathlib.Core.Path.{_≡_}
+use mathlib.Core.List.{List, map}
+use lib.Dec.{eqb}
+use Rattle.lists.specs.Choice.{pick}
+use Rattle.value.specs.Class.{classNumber, statesOf}
+use Rattle.signal.specs.declared.kind.SignalEncoding.{SignalEncoding}
+use Rattle.signal.specs.declared.kind.SignalEncoding.the-variants.{BitVector, Real, Absent}
+use Rattle.image.specs.Head.{kindNumber}
+use Rattle.recording.specs.declared.SignalRecord.{SignalRecord}
+use Rattle.recording.specs.Memory.{recordOf}
+
+-- the kind of a number of 32 bits: FFFFFFFF absent, FFFFFFFE real, else a width
+abbrev pub kindFrom : ℕ → SignalEncoding
+kindFrom n = pick (eqb n 0xffffffff) Absent (pick (eqb n 0xfffffffe) Real (BitVector n))
+
+unfoldable pub recordFrom : ℕ → SignalRecord
+recordFrom n = recordOf (kindFrom (n % 4294967296)) (n / 4294967296 / 3) (statesOf (n / 4294967296 % 3))
+
+unfoldable pub numberFrom : SignalRecord → ℕ
+numberFrom r = kindNumber (r .kind) + 4294967296 * (3 * r .index + classNumber (r .top))
+
+-- the records of a lent run of numbers
+abbrev pub recordsOf : List ℕ → List SignalRecord
+recordsOf = map recordFrom
+
+-- a record that can be stored: its kind is one that a number of 32 bits stands for, and its index and class fit the other 32
+abbrev pub Storable : SignalRecord → Type 0
+Storable r =
+    (kindFrom (kindNumber (r .kind)) ≡ r .kind) × (kindNumber (r .kind) < 4294967296) × (3 * r .index + classNumber (r .top) < 4294967296)

@@ -1,0 +1,171 @@
+// Signal records stored as numbers of 64 bits, in lent memory.
+//
+// The contracts cite specs/Storage.antt; that a record and its number are inverse is proved in proofs/StorageLaws.antt. What is decided
+// of one record stands in functions by value.
+use recording::SignalRecord;
+use recording::SignalRef;
+use signal::kind::SignalEncoding;
+use value::states::States;
+ghost use mathlib.Core.Path.{_≡_};
+ghost use mathlib.Core.List.{map};
+ghost use lib.ListN.{getD, set};
+ghost use Rattle.signal.specs.Kind.{knownKind};
+ghost use Rattle.image.specs.Head.{kindNumber};
+ghost use Rattle.recording.specs.Memory.{recordOf};
+ghost use Rattle.recording.specs.Step as step;
+ghost use Rattle.recording.specs.TurnedBack.{unknownKind};
+ghost use Rattle.storage.specs.Storage.{kindFrom, recordFrom, numberFrom, recordsOf, Storable};
+
+// Widths are at most 65,536.
+pub fn known_kind(kind: SignalEncoding) -> bool
+    ensures { λ r. ⌜ r ≡ knownKind kind ⌝ }
+{
+    match kind {
+        SignalEncoding::BitVector(width) => width <= 65536,
+        SignalEncoding::Real => true,
+        SignalEncoding::Absent => true,
+    }
+}
+
+// A kind's number: its width, FFFFFFFE for real, FFFFFFFF for absent.
+pub fn kind_number(kind: SignalEncoding) -> u32
+    ensures { λ r. ⌜ r ≡ kindNumber kind ⌝ }
+{
+    match kind {
+        SignalEncoding::BitVector(width) => width,
+        SignalEncoding::Real => 0xfffffffe,
+        SignalEncoding::Absent => 0xffffffff,
+    }
+}
+
+// The kind of a number.
+pub fn kind_from(n: u32) -> SignalEncoding
+    ensures { λ r. ⌜ r ≡ kindFrom n ⌝ }
+{
+    if n == 0xffffffff {
+        return SignalEncoding::Absent;
+    }
+    if n == 0xfffffffe {
+        return SignalEncoding::Real;
+    }
+    SignalEncoding::BitVector(n)
+}
+
+// The record at the start of a recording: index and class are 0.
+pub fn fresh(record: SignalRecord) -> SignalRecord
+    ensures { λ r. ⌜ r ≡ step.fresh «record» ⌝ }
+{
+    let kind = record.kind;
+    let top = States::Two;
+    SignalRecord {
+        kind,
+        index: 0,
+        top,
+    }
+}
+
+// The record after a cut: the index is 0 again, the top class stays.
+pub fn rewound(record: SignalRecord) -> SignalRecord
+    ensures { λ r. ⌜ r ≡ step.rewound «record» ⌝ }
+{
+    let kind = record.kind;
+    let top = record.top;
+    SignalRecord {
+        kind,
+        index: 0,
+        top,
+    }
+}
+
+pub fn record_from(n: u64) -> SignalRecord
+    ensures { λ r. ⌜ r ≡ recordFrom n ⌝ }
+{
+    let high = n / 4294967296;
+    let kind = kind_from((n % 4294967296) as u32);
+    let top = States::from_number((high % 3) as u8);
+    SignalRecord {
+        kind,
+        index: (high / 3) as u32,
+        top,
+    }
+}
+
+pub fn number_from(record: SignalRecord) -> u64
+    requires { ⌜ Storable «record» ⌝ }
+    ensures { λ r. ⌜ r ≡ numberFrom «record» ⌝ }
+{
+    let kind = record.kind;
+    let class = record.top;
+    kind_number(kind) as u64 + 4294967296 * (3 * (record.index as u64) + class.number() as u64)
+}
+
+// Where a signal's record stands.
+fn place_of(signal: SignalRef) -> usize
+    ensures { λ r. ⌜ r ≡ signal .0 ⌝ }
+{
+    signal.0 as usize
+}
+
+// A signal's record; past the records stands an absent one.
+pub fn find_record(records: &[u64], signal: SignalRef) -> SignalRecord
+    ensures { λ r. ⌜ (r ≡ getD (recordsOf (now (records .entry))) (signal .0) (recordOf SignalEncoding.Absent 0 States.Two)) × Storable r ⌝ }
+{
+    let at = place_of(signal);
+    if records.len() <= at {
+        let kind = SignalEncoding::Absent;
+        let lowest = States::Two;
+        return SignalRecord {
+            kind,
+            index: 0,
+            top: lowest,
+        };
+    }
+    record_from(records[at])
+}
+
+// Stores a signal's record; past the records nothing is written.
+pub fn put_record(records: &mut [u64], signal: SignalRef, record: SignalRecord)
+    requires { ⌜ Storable «record» ⌝ }
+    ensures { λ r. ⌜ recordsOf (now (records .exit)) ≡ set (recordsOf (now (records .entry))) (signal .0) «record» ⌝ }
+{
+    let at = place_of(signal);
+    if at < records.len() {
+        records[at] = number_from(record);
+    }
+}
+
+// A record has a kind that no signal can have.
+pub fn has_unknown_kind(records: &[u64]) -> bool
+    ensures { λ r. ⌜ r ≡ unknownKind (recordsOf (now (records .entry))) ⌝ }
+{
+    let mut i = 0;
+    while i < records.len() {
+        let record = record_from(records[i]);
+        let kind = record.kind;
+        if !known_kind(kind) {
+            return true;
+        }
+        i += 1;
+    }
+    false
+}
+
+pub fn reset_records(records: &mut [u64])
+    ensures { λ r. ⌜ recordsOf (now (records .exit)) ≡ map step.fresh (recordsOf (now (records .entry))) ⌝ }
+{
+    let mut i = 0;
+    while i < records.len() {
+        records[i] = number_from(fresh(record_from(records[i])));
+        i += 1;
+    }
+}
+
+pub fn rewind_records(records: &mut [u64])
+    ensures { λ r. ⌜ recordsOf (now (records .exit)) ≡ map step.rewound (recordsOf (now (records .entry))) ⌝ }
+{
+    let mut i = 0;
+    while i < records.len() {
+        records[i] = number_from(rewound(record_from(records[i])));
+        i += 1;
+    }
+}

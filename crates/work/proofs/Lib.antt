@@ -1,0 +1,3 @@
+pub mod WorkLaws
+pub mod SumLaws
+pub mod MeasureLaws
