@@ -8,7 +8,7 @@ use native.Mathlib.Omega.{arith}
 use borrow.Author.Tests.{lt-ltb, le-ltb, le-leb, lt-leb, eq-eqb, ne-eqb}
 use lib.ListN.{length, getD, set}
 use lib.Seq.{sets}
-use lib.Dec.{ltb, leb, eqb, T}
+use lib.Dec.{ltb, leb, eqb}
 use Rattle.lists.specs.Choice.{pick}
 use Rattle.value.specs.Class.{classNumber, statesOf}
 use Rattle.value.specs.declared.states.States.{States}
@@ -29,7 +29,8 @@ use Rattle.recording.specs.Work.{item, itemBytes}
 use Rattle.recording.specs.Memory.{Memory, memory, After, after, recordAt, recordOf, Tests, first, turned, refused}
 use Rattle.recording.specs.TurnedBack.{stateTests, openTests, earlyTests, signalTests, roomTests, absent}
 use Rattle.recording.specs.Step.{skippedOne, changeBy, changeOf}
-use Rattle.refusals.proofs.TestsLaws.{positive, turned-none, turned-first}
+use Rattle.refusals.proofs.TestsLaws.{turned-none, turned-first}
+use Rattle.refusals.proofs.StateLaws.{state-positive}
 use Rattle.change.specs.Found.{Found, found, foundRefused, foundDone, foundBy, foundOf}
 
 not-picked : {A : Type 0} (x y : A) (b : Bool) → b ≡ false → pick b x y ≡ y
@@ -53,13 +54,9 @@ module _ (s : Encoder) (r : SignalRecord) (records times image : ℕ) (w : List 
   past =
       turned (earlyTests s) (foundRefused s r w) heard
 
-  positive-state : T (positive (stateTests s records times (length w) image))
-  unfolding stateTests
-  positive-state = tt
-
   found-past : first (stateTests s records times (length w) image) ≡ 0 → foundOf s r records times image w g v ≡ past
   unfolding foundOf
-  found-past z = turned-none (stateTests s records times (length w) image) (foundRefused s r w) past positive-state z
+  found-past z = turned-none (stateTests s records times (length w) image) (foundRefused s r w) past (state-positive s records times (length w) image) z
 
   pub found-early : first (stateTests s records times (length w) image) ≡ 0 → s .held ≡ 0 → foundOf s r records times image w g v ≡ foundRefused s r w 3
   found-early z h = found-past z ∙ rw (eq-eqb (s .held) 0 h) refl

@@ -2,6 +2,7 @@
 -- Assumes nothing.
 use Prim.Native.Nat.{ℕ, _+_, _-_, _*_, _≤_, _<_}
 use mathlib.Core.Path.{_≡_, refl, sym, ap, _∙_}
+use mathlib.Core.Bool.{Bool, true, false}
 use mathlib.Core.List.{List, _++_, map}
 use mathlib.Core.Option.{Option, some, none}
 use native.Mathlib.Omega.{arith}
@@ -10,6 +11,8 @@ use borrow.Author.Tests.{lt-ltb, le-ltb}
 use borrow.Rule.Slice.PartMut.{putMid, midOf}
 use lib.ListN.{length, take, getD, set, length-take}
 use lib.Seq.{sets}
+use lib.Dec.{ltb}
+use Rattle.lists.specs.Choice.{pick}
 use Rattle.lists.proofs.SetsLaws.{sets-append, sets-part}
 use Rattle.numbers.specs.LittleEndian.{le}
 use Rattle.numbers.proofs.LittleEndianLaws.{length-le}
@@ -17,7 +20,7 @@ use Rattle.image.specs.Block.{blockBytes, blockSize}
 use Rattle.recording.specs.declared.Encoder.{Encoder}
 use Rattle.recording.specs.Work.{Item, itemsOf}
 use Rattle.recording.specs.Memory.{Memory, memory}
-use Rattle.recording.specs.Step.{rewound, cutBlock, cutItems, cutOf, cutIn}
+use Rattle.recording.specs.Step.{rewound, Cut, noCut, cuts, cutBlock, cutItems, cutOf, cutIn}
 use Rattle.storage.specs.Storage.{recordsOf}
 use Rattle.storage.proofs.StorageLaws.{records-length}
 use Rattle.work.specs.Measure.{dataLength, measured}
@@ -26,7 +29,7 @@ use Rattle.work.specs.declared.Measured.the-variants.{Data, Damaged}
 use Rattle.refusals.proofs.StateLaws.{Sound}
 use Rattle.block.specs.Given.{itemsIn, Divides}
 use Rattle.block.proofs.SizeLaws.{length-block}
-use Rattle.cut.specs.Cut.{afterCut, cutBy, cutState}
+use Rattle.cut.specs.Cut.{AfterCut, afterCut, cutBy, cutState}
 
 -- how many bytes the block to cut has
 pub cut-size : (s : Encoder) (rs t w i : List ℕ) (is : List Item) → s .held ≤ length t
@@ -106,3 +109,33 @@ module _ (s : Encoder) (rs t w i : List ℕ) (h : Sound s (length rs) (length t)
     cut-made {size} s′ rs′ t′ i′ e f a b c d =
         let size : size ≡ length made = e ∙ made-size in
         rw (p .cut, le-ltb (length i - s .image) (length made) (omega arith), a, b, c, d, size) refl
+
+-- ---- what a caller learns
+
+module _ (m : Memory) where
+  cut-number : (k : ℕ) → cutOf m ≡ noCut k → k ≡ 0 → ⊥
+  unfolding cutOf
+  cut-number k e z = by (itemsOf (m .state .work) (m .state .signals) (take (m .state .work) (m .work))) (sym z) e
+    where
+      full : (b : Bool) (x : List ℕ) → pick b (noCut 8) (cuts x) ≡ noCut 0 → ⊥
+      full true x e = let z : _≡_ {A = ℕ} 8 0 = cc in omega arith
+      full false x e = let z : _≡_ {A = ℕ} 0 1 = cc in omega arith
+      by : (o : Option (List Item)) → 0 ≡ k → cutItems m o ≡ noCut k → ⊥
+      by none z e = let q : _≡_ {A = ℕ} 10 k = cc in omega arith
+      by (some is) z e =
+          full (ltb (length (m .image) - m .state .image) (length (blockBytes (cutBlock m is)))) (blockBytes (cutBlock m is)) (e ∙ ap noCut (sym z))
+
+  -- a refused cut leaves all as it was
+  pub cut-refused : (n : ℕ) (m′ : Memory) → afterCut n m′ ≡ cutBy m (cutOf m) → (n ≡ 0 → ⊥) → (cutOf m ≡ noCut n) × (m′ ≡ m)
+  cut-refused n m′ e h = by (cutOf m) refl e
+    where
+      by : (c : Cut) → cutOf m ≡ c → afterCut n m′ ≡ cutBy m c → (cutOf m ≡ noCut n) × (m′ ≡ m)
+      by (noCut k) q e = (q ∙ ap noCut (sym (ap (λ (x : AfterCut). x .refusal) e)), ap (λ (x : AfterCut). x .memory) e)
+      by (cuts b) q e = absurd (h (ap (λ (x : AfterCut). x .refusal) e))
+
+  pub cut-done : (n : ℕ) (m′ : Memory) → afterCut n m′ ≡ cutBy m (cutOf m) → n ≡ 0 → (b : List ℕ) × (cutOf m ≡ cuts b) × (m′ ≡ cutIn m b)
+  cut-done n m′ e h = by (cutOf m) refl e
+    where
+      by : (c : Cut) → cutOf m ≡ c → afterCut n m′ ≡ cutBy m c → (b : List ℕ) × (cutOf m ≡ cuts b) × (m′ ≡ cutIn m b)
+      by (noCut k) q e = absurd (cut-number k q (sym (ap (λ (x : AfterCut). x .refusal) e) ∙ h))
+      by (cuts b) q e = (b, q, ap (λ (x : AfterCut). x .memory) e)

@@ -4,12 +4,24 @@
 // records and lent buffers at exit and a definition of recording/specs/Step.antt over those at entry. Signal records are stored as
 // numbers (crate storage).
 pub mod changes;
+pub mod time;
 
 use recording::Answer;
 use recording::Encoder;
+ghost use mathlib.Core.Path.{_≡_};
 
 // What a call answers, and the state after it.
 pub struct Outcome {
     pub answer: Answer,
     pub state: Encoder,
+}
+
+// A refusal by its number: nothing changes.
+fn refused(n: u32, state: Encoder) -> Outcome
+    ensures { λ r. ⌜ (r .answer ≡ Answer.Refused n) × (r .state ≡ state) ⌝ }
+{
+    Outcome {
+        answer: Answer::Refused(n),
+        state,
+    }
 }

@@ -5,12 +5,12 @@ use mathlib.Core.Path.{_≡_, refl}
 use mathlib.Core.Bool.{Bool, true, false, _||_, not}
 use native.Mathlib.Omega.{arith}
 use borrow.Author.Tests.{le-ltb, ltb-false, eqb-true, not-false}
-use lib.Dec.{ltb}
+use lib.Dec.{ltb, T}
 use lib.ListN.{drop}
 use Rattle.recording.specs.declared.Encoder.{Encoder}
 use Rattle.recording.specs.Memory.{first}
 use Rattle.recording.specs.TurnedBack.{stateTests}
-use Rattle.refusals.proofs.TestsLaws.{none-of}
+use Rattle.refusals.proofs.TestsLaws.{positive, none-of}
 
 -- past the tests of B, the held times and the time buffer
 pub limits-past : (s : Encoder) (records times work image : ℕ) → s .closed ≡ false → 2 ≤ s .limit → s .limit ≤ 65535 → s .held ≤ s .limit → s .limit ≤ times
@@ -53,3 +53,8 @@ sound s records times work image e =
       blocks = ltb-false _ _ (f .1 .1 .1 .1 .1 .1 .0);
       signals = eqb-true _ _ (not-false _ (f .1 .1 .1 .1 .1 .1 .1 .0));
     }
+
+-- no number in the table is 0
+pub state-positive : (s : Encoder) (records times work image : ℕ) → T (positive (stateTests s records times work image))
+unfolding stateTests
+state-positive s records times work image = tt
