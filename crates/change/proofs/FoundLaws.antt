@@ -39,7 +39,6 @@ not-picked x y b e = rw e refl
 -- ---- the tests before the value
 
 module _ (s : Encoder) (r : SignalRecord) (records times image : ℕ) (w : List ℕ) (g : ℕ) (v : Given) where
-
   pub found-state : (first (stateTests s records times (length w) image) ≡ 0 → ⊥)
       → foundOf s r records times image w g v ≡ foundRefused s r w (first (stateTests s records times (length w) image))
   unfolding foundOf

@@ -25,6 +25,7 @@ ghost use Rattle.signal.specs.declared.decode.DecodedChange.the-variants as dec
 ghost use Rattle.recording.specs.Calls.{replyOf};
 ghost use Rattle.recording.specs.Step.{skippedOne};
 ghost use Rattle.change.specs.Found.{givenOf, found, foundBy, foundOf, working, risen};
+
 pub mod notation;
 
 // What a change answers, with the state and the signal's record after it.

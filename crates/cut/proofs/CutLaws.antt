@@ -120,6 +120,7 @@ module _ (m : Memory) where
       full : (b : Bool) (x : List ℕ) → pick b (noCut 8) (cuts x) ≡ noCut 0 → ⊥
       full true x e = let z : _≡_ {A = ℕ} 8 0 = cc in omega arith
       full false x e = let z : _≡_ {A = ℕ} 0 1 = cc in omega arith
+
       by : (o : Option (List Item)) → 0 ≡ k → cutItems m o ≡ noCut k → ⊥
       by none z e = let q : _≡_ {A = ℕ} 10 k = cc in omega arith
       by (some is) z e =

@@ -8,24 +8,22 @@ use native.Mathlib.Omega.{arith}
 use native.Mathlib.Numerals.{sub-one}
 use borrow.Author.Tests.{lt-ltb, le-ltb, eq-eqb, ne-eqb}
 use lib.ListN.{length, take, getD, set, length-set}
-use lib.Dec.{ltb, eqb, T}
+use lib.Dec.{ltb, eqb}
 use Rattle.lists.specs.Choice.{pick}
 use Rattle.lists.specs.Last.{lastOr}
 use Rattle.recording.specs.declared.Answer.{Answer}
-use Rattle.recording.specs.declared.Answer.the-variants.{Taken, Same, Back, Refused}
+use Rattle.recording.specs.declared.Answer.the-variants.{Taken, Refused}
 use Rattle.recording.specs.declared.Encoder.{Encoder}
 use Rattle.recording.specs.declared.SignalRecord.{SignalRecord}
 use Rattle.recording.specs.Calls.{replyOf, Way, above, equal, below, wayOf}
-use Rattle.recording.specs.Memory.{Memory, memory, After, after, first, turned, refused}
-use Rattle.recording.specs.TurnedBack.{stateTests, openTests}
-use Rattle.recording.specs.Step.{Cut, cuts, noCut, cutOf, cutIn, timed, timeCut, timeBy, timeOf, skipping, withState}
+use Rattle.recording.specs.Memory.{Memory, memory, after, first}
+use Rattle.recording.specs.TurnedBack.{stateTests}
+use Rattle.recording.specs.Step.{cutOf, timed, timeCut, timeBy, timeOf}
 use Rattle.storage.specs.Storage.{recordsOf}
-use Rattle.storage.proofs.StorageLaws.{records-length}
-use Rattle.refusals.proofs.TestsLaws.{positive, turned-none, turned-first}
-use Rattle.refusals.proofs.StateLaws.{state-positive}
 use Rattle.cut.specs.Cut.{afterCut, cutBy}
 use Rattle.cut.proofs.CutLaws.{cut-refused, cut-done}
 use Rattle.encoder.specs.Taken.{takenState}
+use Rattle.encoder.proofs.OpenLaws.{open-refused, open-passed}
 
 -- ---- the way of a time
 
@@ -65,7 +63,6 @@ module _ (s : Encoder) (rs : List SignalRecord) (t w i : List ℕ) (x : ℕ) whe
 
   module _ (s′ : Encoder) (rs′ : List SignalRecord) (t′ i′ : List ℕ) (n : ℕ) (h : s .held ≤ s .limit) (full : s .limit ≤ s .held)
       (done : afterCut n (memory s′ rs′ t′ w i′) ≡ cutBy m (cutOf m)) where
-
     pub above-refused : (a : Answer) (s″ : Encoder) → (n ≡ 0 → ⊥) → a ≡ Refused n → s″ ≡ s′
         → after (replyOf a) (memory s″ rs′ t′ w i′) ≡ timeBy m x above
     above-refused a s″ z e f =
@@ -92,12 +89,8 @@ module _ (s : Encoder) (rs t w i : List ℕ) (x : ℕ) where
   pub time-refused : (a : Answer) (s′ : Encoder) {n : ℕ} → n ≡ first (stateTests s (length rs) (length t) (length w) (length i)) → (n ≡ 0 → ⊥)
       → a ≡ Refused n → s′ ≡ s → after (replyOf a) (memory s′ (recordsOf rs) t w i) ≡ timeOf lent x
   unfolding timeOf
-  time-refused a s′ {n} e z f g =
-      let why : n ≡ first (openTests lent) = e ∙ rw (records-length rs) refl in
-      rw (f, g, why) (sym (turned-first (openTests lent) (refused lent) _ (λ q. z (why ∙ q))))
+  time-refused a s′ e z f g = open-refused s rs t w i _ a s′ e z f g
 
   pub time-by : (y : Way) → first (stateTests s (length rs) (length t) (length w) (length i)) ≡ 0 → y ≡ wayOf (take (s .held) t) x → timeOf lent x ≡ timeBy lent x y
   unfolding timeOf
-  time-by y z e =
-      let none : first (openTests lent) ≡ 0 = rw (records-length rs) z in
-      turned-none (openTests lent) (refused lent) _ (state-positive s (length (recordsOf rs)) (length t) (length w) (length i)) none ∙ ap (timeBy lent x) (sym e)
+  time-by y z e = open-passed s rs t w i _ z ∙ ap (timeBy lent x) (sym e)

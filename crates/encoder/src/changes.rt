@@ -56,7 +56,16 @@ pub fn vcd_value_change(
     ensures { λ r. ⌜ after (replyOf (r .answer)) (memory (r .state) (recordsOf (now (records .exit))) (now (times .entry)) (now (work .exit)) (now (image .entry)))
         ≡ changeOf (memory state (recordsOf (now (records .entry))) (now (times .entry)) (now (work .entry)) (now (image .entry))) (signal .0) (vcd (now (value .entry))) ⌝ }
 {
-    value_change(state, records, times, work, image, signal, Value::Vcd, value)
+    value_change(
+        state,
+        records,
+        times,
+        work,
+        image,
+        signal,
+        Value::Vcd,
+        value,
+    )
 }
 
 // A raw value of a signal, with the class that it claims.
@@ -73,7 +82,16 @@ pub fn raw_value_change(
     ensures { λ r. ⌜ after (replyOf (r .answer)) (memory (r .state) (recordsOf (now (records .exit))) (now (times .entry)) (now (work .exit)) (now (image .entry)))
         ≡ changeOf (memory state (recordsOf (now (records .entry))) (now (times .entry)) (now (work .entry)) (now (image .entry))) (signal .0) (raw claim (now (value .entry))) ⌝ }
 {
-    value_change(state, records, times, work, image, signal, Value::Raw(claim), value)
+    value_change(
+        state,
+        records,
+        times,
+        work,
+        image,
+        signal,
+        Value::Raw(claim),
+        value,
+    )
 }
 
 // A real of a signal, by the 64 bits of its f64, so that every pattern is kept.
@@ -89,5 +107,14 @@ pub fn real_change(
     ensures { λ r. ⌜ after (replyOf (r .answer)) (memory (r .state) (recordsOf (now (records .exit))) (now (times .entry)) (now (work .exit)) (now (image .entry)))
         ≡ changeOf (memory state (recordsOf (now (records .entry))) (now (times .entry)) (now (work .entry)) (now (image .entry))) (signal .0) (real bits) ⌝ }
 {
-    value_change(state, records, times, work, image, signal, Value::Real(bits), &[])
+    value_change(
+        state,
+        records,
+        times,
+        work,
+        image,
+        signal,
+        Value::Real(bits),
+        &[],
+    )
 }

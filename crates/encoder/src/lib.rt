@@ -4,6 +4,8 @@
 // records and lent buffers at exit and a definition of recording/specs/Step.antt over those at entry. Signal records are stored as
 // numbers (crate storage).
 pub mod changes;
+pub mod finish;
+pub mod start;
 pub mod time;
 
 use recording::Answer;

@@ -2,11 +2,11 @@
 -- Assumes nothing.
 use Prim.Native.Nat.{ℕ, _≤_}
 use mathlib.Core.Path.{_≡_, refl}
-use mathlib.Core.Bool.{Bool, true, false, _||_, not}
-use native.Mathlib.Omega.{arith}
+use mathlib.Core.Bool.{false}
 use borrow.Author.Tests.{le-ltb, ltb-false, eqb-true, not-false}
 use lib.Dec.{ltb, T}
 use lib.ListN.{drop}
+use Rattle.lists.proofs.ChoiceLaws.{none-holds}
 use Rattle.recording.specs.declared.Encoder.{Encoder}
 use Rattle.recording.specs.Memory.{first}
 use Rattle.recording.specs.TurnedBack.{stateTests}
@@ -17,10 +17,6 @@ pub limits-past : (s : Encoder) (records times work image : ℕ) → s .closed �
     → first (stateTests s records times work image) ≡ first (drop 4 (stateTests s records times work image))
 unfolding stateTests
 limits-past s records times work image o a b h t = rw (o, le-ltb (s .limit) 2 a, le-ltb 65535 (s .limit) b, le-ltb (s .limit) (s .held) h, le-ltb times (s .limit) t) refl
-
-or-false : (a b : Bool) → a || b ≡ false → (a ≡ false) × (b ≡ false)
-or-false true b e = let z : _≡_ {A = ℕ} 0 1 = cc in absurd (omega arith)
-or-false false b e = (refl, e)
 
 -- what holds where no test of the state turns a call back
 pub record Sound (s : Encoder) (records times work image : ℕ) : Type 0 where
@@ -39,8 +35,8 @@ pub sound : (s : Encoder) (records times work image : ℕ) → first (stateTests
 unfolding stateTests
 sound s records times work image e =
     let f = none-of (stateTests s records times work image) tt e in
-    let b = or-false (ltb (s .limit) 2) (ltb 65535 (s .limit)) (f .1 .0) in
-    let u = or-false (ltb work (s .work)) (ltb image (s .image)) (f .1 .1 .1 .1 .0) in
+    let b = none-holds (ltb (s .limit) 2) (ltb 65535 (s .limit)) (f .1 .0) in
+    let u = none-holds (ltb work (s .work)) (ltb image (s .image)) (f .1 .1 .1 .1 .0) in
     record {
       going = f .0;
       low = ltb-false _ _ (b .0);

@@ -28,7 +28,6 @@ through c =
     let a = c .before .before .before .before .before .before .before .before .before .before .args in
     found-decoded (a .state) (a .kept) (a .lent .records) (a .lent .times) (a .lent .image) (a .work .now) (a .signal .0) (givenOf (a .value) (a .bytes .now)) (none (c .before .before .before .before .before .before)) (c .before .before .before .before .if2 .left) (c .before .before .before .if3 .left) (c .if4 .left)
 
-
 state-refusal-requires : tie.Need-state-refusal-requires
 state-refusal-requires c κs = search needs
 

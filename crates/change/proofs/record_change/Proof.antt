@@ -25,7 +25,6 @@ short c =
     let a = c .before .before .before .before .before .before .before .args in
     rw (c .change-len .ensures) (change-short (c .before .before .width .result) (a .state .held - 1 - a .kept .index) (a .change) (c .before .if2 .left))
 
-
 sub-last : tie.Need-sub-last
 sub-last c = search needs
 

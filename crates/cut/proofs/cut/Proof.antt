@@ -12,7 +12,6 @@ fine : (c : tie.After-measure) → let a = c .before .before .before .before .be
     Sound (a .state) (length (a .records .now)) (length (a .times .now)) (length (a .work .now)) (length (a .image .now))
 fine c = sound _ _ _ _ _ (c .before .before .before .before .before .before .pre .0)
 
-
 slice-aggregate-used : tie.Need-slice-aggregate-used
 slice-aggregate-used c =
     let a = c .before .before .before .before .before .args in

@@ -12,7 +12,6 @@ fine : (c : tie.Start) → let a = c .args in
     Sound (a .state) (length (a .records .now)) (length (a .times .now)) (length (a .work .now)) (length (a .image .now))
 fine c = sound _ _ _ _ _ (c .pre)
 
-
 taken-requires : tie.Need-taken-requires
 taken-requires c κs = let h = fine (c .before .before .before .before .before .before .before) in (omega (arith, h .table), omega (arith, h .high))
 

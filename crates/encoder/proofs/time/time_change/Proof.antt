@@ -17,7 +17,6 @@ none : (c : tie.Else1) → let a = c .before .before .before .before .before .be
     first (stateTests (a .state) (length (a .records .now)) (length (a .times .now)) (length (a .work .now)) (length (a .image .now))) ≡ 0
 none c = sym (c .before .state-refusal .ensures) ∙ c .if1 .left
 
-
 state-refusal-requires : tie.Need-state-refusal-requires
 state-refusal-requires c κs = search needs
 
