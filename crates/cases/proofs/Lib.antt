@@ -1,2 +1,1 @@
 pub mod StarredHold
-pub mod RunsHold

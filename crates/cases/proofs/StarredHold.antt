@@ -20,11 +20,12 @@ use Rattle.recording.specs.Calls.{time, change, finish, wayOf}
 use Rattle.recording.specs.Work.{itemsOf, gather}
 use Rattle.recording.specs.TurnedBack.{unknownKind, startTests, stateTests}
 use Rattle.recording.specs.Step.{partsFrom, cutOf, timeOf, changeOf, finishOf, startOf, step, run}
-use Rattle.cases.specs.Runs.{lent, ran, imageLeft}
+use Rattle.loaded.specs.EntryBytes.{entryBytes}
+use Rattle.recording.specs.Runs.{lent, ran, imageLeft}
 use Rattle.cases.specs.Starred.{holds, allHold, starred}
 
 pub starred-hold : allHold starred ≡ true
-unfolding groups lebOf le unle symbolOf classOfAll symbolsIn lastOr vcdBit textOf extended textSymbols numberOf digits packed decode changeBytes les dataOf offsetsFrom blockBytes headBytes wayOf itemsOf gather unknownKind startTests stateTests partsFrom cutOf timeOf changeOf finishOf startOf step run lent ran imageLeft same holds allHold starred
+unfolding groups lebOf le unle symbolOf classOfAll symbolsIn lastOr vcdBit textOf extended textSymbols numberOf digits packed decode changeBytes les dataOf offsetsFrom blockBytes headBytes wayOf itemsOf gather unknownKind startTests stateTests partsFrom cutOf timeOf changeOf finishOf startOf step run lent ran imageLeft same entryBytes holds allHold starred
 starred-hold = refl
 
 -- the image of widths 1 and 4, B 4: time 10, "1", "b1x"; time 20, second "b0001"; finish

@@ -17,7 +17,7 @@ use Rattle.signal.specs.declared.kind.SignalEncoding.{SignalEncoding}
 use Rattle.signal.specs.declared.kind.SignalEncoding.the-variants.{BitVector, Real, Absent}
 use Rattle.signal.specs.declared.decode.ChangeValue.{ChangeValue}
 use Rattle.signal.specs.declared.decode.DecodedChange.the-variants.{Change, Refused}
-use Rattle.signal.specs.Kind.{widthOf, knownKind}
+use Rattle.signal.specs.Kind.{widthOf, knownKind, absent}
 use Rattle.signal.specs.Content.{Given, vcd, raw, real, Decoded, refuse, accept, contentOf, decode}
 use Rattle.signal.specs.Answer.{decodedAs}
 use Rattle.stream.specs.Stream.{changeBytes}
@@ -27,7 +27,7 @@ use Rattle.recording.specs.declared.Answer.{Answer}
 use Rattle.recording.specs.Calls.{Reply, replyOf, say, recorded, skipped}
 use Rattle.recording.specs.Work.{item, itemBytes}
 use Rattle.recording.specs.Memory.{Memory, memory, After, after, recordAt, recordOf, Tests, first, turned, refused}
-use Rattle.recording.specs.TurnedBack.{stateTests, openTests, earlyTests, signalTests, roomTests, absent}
+use Rattle.recording.specs.TurnedBack.{stateTests, openTests, earlyTests, signalTests, roomTests}
 use Rattle.recording.specs.Step.{skippedOne, changeBy, changeOf}
 use Rattle.refusals.proofs.TestsLaws.{turned-none, turned-first}
 use Rattle.refusals.proofs.StateLaws.{state-positive}

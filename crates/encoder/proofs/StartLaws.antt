@@ -10,12 +10,12 @@ use lib.Seq.{sets}
 use lib.Dec.{ltb, eqb}
 use Rattle.lists.specs.Choice.{pick}
 use Rattle.lists.proofs.ChoiceLaws.{none-holds}
-use Rattle.image.specs.Head.{headSize, headBytes}
+use Rattle.image.specs.Head.{headSize, headBytes, imageLimit}
 use Rattle.recording.specs.declared.Answer.the-variants.{Started, Refused}
 use Rattle.recording.specs.declared.Encoder.{Encoder}
 use Rattle.recording.specs.Calls.{replyOf}
 use Rattle.recording.specs.Memory.{Memory, memory, After, after, Tests, first, turned, refused}
-use Rattle.recording.specs.TurnedBack.{imageLimit, unknownKind, startTests}
+use Rattle.recording.specs.TurnedBack.{unknownKind, startTests}
 use Rattle.recording.specs.Step.{encoder, fresh, kindIn, startOf}
 use Rattle.recording.proofs.StartCases.{Startable, begunIn, start-fits}
 use Rattle.storage.specs.Storage.{recordsOf}

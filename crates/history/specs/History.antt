@@ -7,10 +7,10 @@ use mathlib.Core.List.{List, [], _∷_, _++_}
 use lib.ListN.{length, getD}
 use lib.Dec.{eqb}
 use Rattle.lists.specs.Choice.{pick}
-use Rattle.lists.specs.Same.{same}
 use Rattle.signal.specs.declared.kind.SignalEncoding.{SignalEncoding}
 use Rattle.signal.specs.declared.kind.SignalEncoding.the-variants.{Absent}
-use Rattle.signal.specs.Content.{Content, happened, symbols, bits, Decoded, refuse, accept, decode}
+use Rattle.signal.specs.Content.{Content, Decoded, refuse, accept, decode}
+use Rattle.stream.specs.Entries.{Entry, entry, repeats, orNine}
 use Rattle.recording.specs.Calls as calls
 use Rattle.recording.specs.Calls.{Call, time, change, finish, Heard, taken, back, recorded, skipped, silent, Way, above, equal, below, wayOf, counted}
 
@@ -77,25 +77,10 @@ tellAll ks h (c ∷ cs) (r ∷ rs) =
 
 -- ---- what is kept
 
--- the second content repeats the first; an event never does, a real does by its bits
-abbrev pub repeats : Content → Content → Bool
-repeats happened c = false
-repeats (symbols a) happened = false
-repeats (symbols a) (symbols b) = same a b
-repeats (symbols a) (bits b) = false
-repeats (bits a) happened = false
-repeats (bits a) (symbols b) = false
-repeats (bits a) (bits b) = eqb a b
-
--- an entry: its place and its content
-pub record Entry : Type 0 where
-  pub index : ℕ
-  pub content : Content
-
--- the list of a signal
+-- the list of a signal: an entry has the place of its time, and its content
 unfoldable pub listOf : (signal : ℕ) → List Change → List Entry
 listOf g [] = []
-listOf g (c ∷ cs) = pick (eqb (c .signal) g) (record { index = c .place; content = c .content } ∷ listOf g cs) (listOf g cs)
+listOf g (c ∷ cs) = pick (eqb (c .signal) g) (entry (c .place) (c .content) ∷ listOf g cs) (listOf g cs)
 
 -- kept: the first, and each differing in content from the one before it in the list; of events all
 unfoldable pub keptAfter : Content → List Entry → List Entry
@@ -113,10 +98,6 @@ keptOf h g = kept (listOf g (h .changes))
 unfoldable pub topOf : (signal : ℕ) → List Change → ℕ
 topOf g [] = 0
 topOf g (c ∷ cs) = max (pick (eqb (c .signal) g) (c .class) 0) (topOf g cs)
-
-abbrev pub orNine : List Entry → ℕ → ℕ
-orNine [] c = 2
-orNine (e ∷ es) c = c
 
 abbrev pub classOf : History → (signal : ℕ) → ℕ
 classOf h g = orNine (listOf g (h .changes)) (topOf g (h .changes))

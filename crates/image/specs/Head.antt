@@ -18,6 +18,10 @@ kindNumber Absent = 0xffffffff
 abbrev pub headSize : ℕ → ℕ
 headSize s = 16 + 4 * s
 
+-- an image has at most 1,073,741,824 bytes
+abbrev pub imageLimit : ℕ
+imageLimit = 1073741824
+
 -- signals S, B, blocks N, total bytes, then S kinds
 unfoldable pub headBytes : (limit blocks total : ℕ) → List SignalEncoding → List ℕ
 headBytes limit n total ks = le 4 (length ks) ++ (le 4 limit ++ (le 4 n ++ (le 4 total ++ les 4 (map kindNumber ks))))

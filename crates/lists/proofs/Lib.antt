@@ -1,5 +1,6 @@
 pub mod BytesLaws
 pub mod ChoiceLaws
+pub mod SameLaws
 pub mod SetsLaws
 pub mod SmallLaws
 pub mod Table

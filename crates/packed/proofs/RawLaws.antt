@@ -67,7 +67,7 @@ pub raw-last : (w claim : ℕ) (v : List ℕ) → claim ≤ 2 → packedLength w
 unfolding rawSymbols
 raw-last w claim v h k = rw (le-ltb 2 claim h, le-ltb (length v) (packedLength w claim) k) refl
 
-last-after : (a b : List ℕ) (n : ℕ) → length b ≡ n → lastOf n (a ++ b) ≡ b
+pub last-after : (a b : List ℕ) (n : ℕ) → length b ≡ n → lastOf n (a ++ b) ≡ b
 last-after a b n e = drop-at a b (length (a ++ b) - n) (omega (arith, length-append a b))
 
 pub raw-of-packed : (c : ℕ) (front s : List ℕ) → c ≤ 2 → allSymbols s ≡ true → classOfAll s ≤ c

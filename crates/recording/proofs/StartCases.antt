@@ -15,11 +15,11 @@ use Rattle.value.specs.declared.states.States.the-variants.{Two, Nine}
 use Rattle.signal.specs.declared.kind.SignalEncoding.{SignalEncoding}
 use Rattle.signal.specs.declared.kind.SignalEncoding.the-variants.{BitVector, Real, Absent}
 use Rattle.image.specs.Block.{les}
-use Rattle.image.specs.Head.{headSize, headBytes}
+use Rattle.image.specs.Head.{headSize, headBytes, imageLimit}
 use Rattle.recording.specs.declared.SignalRecord.{SignalRecord}
 use Rattle.recording.specs.Calls.{started}
 use Rattle.recording.specs.Memory.{Memory, memory, After, after, recordOf, refused}
-use Rattle.recording.specs.TurnedBack.{imageLimit, outside, unknownKind, startTests}
+use Rattle.recording.specs.TurnedBack.{outside, unknownKind, startTests}
 use Rattle.recording.specs.Step.{encoder, fresh, kindIn, startOf}
 
 -- what is lawful in a start, by the numbers of its tests

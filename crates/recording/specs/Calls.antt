@@ -1,12 +1,14 @@
 -- Document 01, 'Recording' and 'History': the calls of a recording, and what their answers say.
 -- Assumes nothing.
-use Prim.Native.Nat.{ℕ, _+_}
+use Prim.Native.Nat.{ℕ, _+_, _<_, _^_}
 use mathlib.Core.Bool.{Bool, true, false}
-use mathlib.Core.List.{List, [], _∷_}
+use mathlib.Core.List.{List, [], _∷_, map}
+use lib.ListN.{length}
 use lib.Dec.{ltb, eqb}
+use Rattle.lists.specs.Bytes.{Bytes}
 use Rattle.lists.specs.Choice.{pick}
 use Rattle.lists.specs.Last.{lastOr}
-use Rattle.signal.specs.Content.{Given}
+use Rattle.signal.specs.Content.{Given, vcd, raw, real}
 use Rattle.recording.specs.declared.Answer.{Answer}
 use Rattle.recording.specs.declared.Answer.the-variants.{Started, Taken, Same, Back, Recorded, Skipped, Finished, Refused}
 
@@ -15,6 +17,25 @@ pub data Call : Type 0 where
   time : ℕ → Call
   change : (signal : ℕ) → Given → Call
   finish : Call
+
+-- what can be lent as a slice of bytes
+abbrev pub Slice : List ℕ → Type 0
+Slice s = Bytes s × (length s < 2 ^ 63)
+
+-- what a caller can give: times and a real's bits have 64 bits, signal numbers and claims 32
+abbrev pub ValueFits : Given → Type 0
+ValueFits (vcd v) = Slice v
+ValueFits (raw c v) = (c < 2 ^ 32) × Slice v
+ValueFits (real b) = b < 2 ^ 64
+
+abbrev pub CallFits : Call → Type 0
+CallFits (time t) = t < 2 ^ 64
+CallFits (change g v) = (g < 2 ^ 32) × ValueFits v
+CallFits finish = Unit {0}
+
+unfoldable pub Fitting : List Call → Type 0
+Fitting [] = Unit {0}
+Fitting (c ∷ cs) = CallFits c × Fitting cs
 
 -- the answers of times and changes that are no refusals; `silent` stands for every other answer
 pub data Heard : Type 0 where
@@ -42,6 +63,26 @@ replyOf Recorded = say recorded
 replyOf Skipped = say skipped
 replyOf (Finished n) = total n
 replyOf (Refused n) = refuse n
+
+-- of the answers, only which are refusals
+abbrev pub isRefusal : Reply → Bool
+isRefusal (refuse n) = true
+isRefusal (say a) = false
+isRefusal started = false
+isRefusal (total n) = false
+
+abbrev pub refusals : List Reply → List Bool
+refusals = map isRefusal
+
+-- the answers of times and changes that are no refusals
+abbrev pub heardOf : Reply → Heard
+heardOf (refuse n) = silent
+heardOf (say a) = a
+heardOf started = silent
+heardOf (total n) = silent
+
+abbrev pub heard : List Reply → List Heard
+heard = map heardOf
 
 -- a time against the last one taken: the first and a larger one are above
 pub data Way : Type 0 where

@@ -3,3 +3,4 @@ pub mod Work
 pub mod Memory
 pub mod TurnedBack
 pub mod Step
+pub mod Runs

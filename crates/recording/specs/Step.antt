@@ -152,6 +152,9 @@ fresh r = recordOf (r .kind) 0 Two
 abbrev pub kindIn : SignalRecord → SignalEncoding
 kindIn r = r .kind
 
+abbrev pub kindsOf : List SignalRecord → List SignalEncoding
+kindsOf = map kindIn
+
 -- a head with N = 0 and total 16 + 4S, each record's index and class 0
 unfoldable pub startOf : (limit signals : ℕ) → Memory → After
 startOf limit signals m =
@@ -159,7 +162,7 @@ startOf limit signals m =
     (after started
     (memory (encoder false limit signals 0 0 (headSize signals) 0 false 0)
     (map fresh (m .records)) (m .times) (m .work)
-    (sets (m .image) 0 (headBytes limit 0 (headSize signals) (map kindIn (m .records))))))
+    (sets (m .image) 0 (headBytes limit 0 (headSize signals) (kindsOf (m .records))))))
 
 -- ---- lists of calls
 

@@ -5,10 +5,8 @@ use mathlib.Core.Bool.{Bool, true, false, _&&_, _||_, not}
 use mathlib.Core.List.{List, [], _∷_}
 use lib.ListN.{length}
 use lib.Dec.{ltb, leb, eqb}
-use Rattle.signal.specs.declared.kind.SignalEncoding.{SignalEncoding}
-use Rattle.signal.specs.declared.kind.SignalEncoding.the-variants.{BitVector, Real, Absent}
-use Rattle.signal.specs.Kind.{knownKind}
-use Rattle.image.specs.Head.{headSize}
+use Rattle.signal.specs.Kind.{knownKind, absent}
+use Rattle.image.specs.Head.{headSize, imageLimit}
 use Rattle.recording.specs.declared.Encoder.{Encoder}
 use Rattle.recording.specs.declared.SignalRecord.{SignalRecord}
 use Rattle.recording.specs.Memory.{Memory, Tests}
@@ -16,10 +14,6 @@ use Rattle.recording.specs.Memory.{Memory, Tests}
 -- B is 2..65,535
 abbrev pub outside : ℕ → Bool
 outside limit = ltb limit 2 || ltb 65535 limit
-
--- an image has at most 1,073,741,824 bytes
-abbrev pub imageLimit : ℕ
-imageLimit = 1073741824
 
 unfoldable pub unknownKind : List SignalRecord → Bool
 unknownKind [] = false
@@ -55,11 +49,6 @@ openTests m = stateTests (m .state) (length (m .records)) (length (m .times)) (l
 -- 3, a change before any time
 abbrev pub earlyTests : Encoder → Tests
 earlyTests s = (eqb (s .held) 0, 3) ∷ []
-
-abbrev pub absent : SignalEncoding → Bool
-absent (BitVector w) = false
-absent Real = false
-absent Absent = true
 
 -- 4, number at or above S, or absent
 abbrev pub signalTests : Encoder → SignalRecord → (signal : ℕ) → Tests

@@ -1,7 +1,7 @@
 -- Document 01, 'Stream of one signal': the kind of a signal. A vector of width 0 is the event.
 -- Assumes nothing.
 use Prim.Native.Nat.{ℕ, zero, suc}
-use mathlib.Core.Bool.{Bool, true}
+use mathlib.Core.Bool.{Bool, true, false}
 use lib.Dec.{leb}
 use Rattle.signal.specs.declared.kind.SignalEncoding.{SignalEncoding}
 use Rattle.signal.specs.declared.kind.SignalEncoding.the-variants.{BitVector, Real, Absent}
@@ -11,6 +11,11 @@ abbrev pub widthOf : SignalEncoding → ℕ
 widthOf (BitVector w) = w
 widthOf Real = 0
 widthOf Absent = 0
+
+abbrev pub absent : SignalEncoding → Bool
+absent (BitVector w) = false
+absent Real = false
+absent Absent = true
 
 -- widths are at most 65,536
 abbrev pub knownKind : SignalEncoding → Bool

@@ -1,0 +1,11 @@
+pub mod LayoutLaws
+pub mod StreamLaws
+pub mod WrittenOut
+pub mod ImageLaws
+pub mod ImageFits
+pub mod Trip
+pub mod WalkBlock
+pub mod WalkLaws
+pub mod Growth
+pub mod PlaceLaws
+pub mod Cases

@@ -1,0 +1,123 @@
+-- A recording of every kind of signal, computed from the start to what its image loads as: refusals 3, 4 and 6, a skip, an equal time, a
+-- cut, a repeat across the cut, a raw claim above the value, -0.0 beside 0.0, events in both blocks.
+-- Assumes nothing.
+use Prim.Native.Nat.{ℕ}
+use mathlib.Core.Path.{_≡_, refl}
+use mathlib.Core.Bool.{true}
+use mathlib.Core.List.{List, [], _∷_, _++_}
+use lib.ListN.{replicate}
+use Rattle.lists.specs.Last.{lastOr}
+use Rattle.lists.specs.Same.{same}
+use Rattle.numbers.specs.Leb128.{groups, lebOf, readLeb}
+use Rattle.numbers.specs.LittleEndian.{le, unle}
+use Rattle.value.specs.Symbol.{symbolOf}
+use Rattle.value.specs.Class.{classOfAll, allSymbols}
+use Rattle.value.specs.declared.states.States.the-variants.{Two, Nine}
+use Rattle.vcd.specs.Vcd.{symbolsIn, vcdBit, textOf, extended, textSymbols}
+use Rattle.packed.specs.Packed.{numberOf, digits, packed, unpacked}
+use Rattle.packed.specs.Raw.{rawSymbols}
+use Rattle.signal.specs.Content.{happened, symbols, bits, vcd, raw, real, decode}
+use Rattle.signal.specs.declared.kind.SignalEncoding.the-variants.{BitVector, Real, Absent}
+use Rattle.stream.specs.Stream.{changeBytes, valueAfter, readChange}
+use Rattle.stream.specs.Entries.{entry, streamBytes}
+use Rattle.image.specs.Block.{les, dataOf, offsetsFrom, blockBytes}
+use Rattle.image.specs.Head.{headBytes}
+use Rattle.image.specs.Image.{streamedParts, blocksBytes, imageBytes}
+use Rattle.recording.specs.Calls.{Call, time, change, finish, taken, back, recorded, skipped, Reply, say, total, refusals, heard, wayOf}
+use Rattle.recording.specs.Calls as calls
+use Rattle.recording.specs.Work.{itemsOf, gather}
+use Rattle.recording.specs.Memory.{Memory, memory, recordOf}
+use Rattle.recording.specs.TurnedBack.{unknownKind, startTests, stateTests}
+use Rattle.recording.specs.Step.{encoder, partsFrom, cutOf, timeOf, changeOf, finishOf, startOf, step, run, kindsOf}
+use Rattle.history.specs.History.{Telling, noHistory, tell, tellAll, listOf, keptAfter, kept, keptOf, topOf, classOf}
+use Rattle.form.specs.Form.{repeat, each, getChain}
+use Rattle.codec.specs.Layout.{lengths, layoutForm}
+use Rattle.codec.specs.ImageForm.{stream, blockForm, headForm, imageForm}
+use Rattle.codec.specs.Valid.{risingFrom?, rising?, eachBelow?, knownKinds?, contentFits?, entryFits?, entriesFit?, partFits?, partsFit?, begins?, filled?, blockFits?, blocksFit?, valid?}
+use Rattle.codec.specs.Parse.{parse}
+use Rattle.loaded.specs.Opener.{openOf}
+use Rattle.loaded.specs.Loading.{tableFrom, moved, repeatsLast, pushed, loadFrom}
+use Rattle.loaded.specs.EntryBytes.{entryBytes, entriesBytes}
+use Rattle.loaded.specs.Reader.{loadOf, loadAfter, loaded, loadIn, tableOf, tableAfter, counted, tableIn}
+use Rattle.loaded.specs.Reader as reader
+use Rattle.demand.specs.Demand3.{ranFrom, leftBy}
+
+-- a vector of width 2, an event, a real, an absent signal; B 2
+abbrev mixed : Memory
+mixed =
+    memory (encoder true 9 9 9 9 9 9 true 9)
+    (recordOf (BitVector 2) 9 Nine ∷ recordOf (BitVector 0) 7 Two ∷ recordOf Real 5 Nine ∷ recordOf Absent 0 Two ∷ [])
+    (replicate 2 99) (replicate 64 99) (replicate 200 99)
+
+abbrev mixedCalls : List Call
+mixedCalls =
+    change 0 (vcd (49 ∷ []))  -- "1" before any time: 3
+    ∷ time 1
+    ∷ change 0 (vcd (49 ∷ 120 ∷ []))  -- "1x"
+    ∷ change 1 (vcd [])
+    ∷ time 2
+    ∷ change 2 (real 0x8000000000000000)  -- -0.0
+    ∷ change 2 (real 0)
+    ∷ time 1  -- back
+    ∷ change 0 (vcd (113 ∷ []))  -- "q", skipped
+    ∷ time 2  -- same: the skip stands
+    ∷ change 9 (vcd [])  -- skipped
+    ∷ time 3  -- cuts
+    ∷ change 0 (vcd (49 ∷ 120 ∷ []))  -- "1x" again
+    ∷ change 0 (raw 2 (0x12 ∷ []))  -- and again, as a raw value of class Nine
+    ∷ change 0 (vcd (113 ∷ []))  -- 6
+    ∷ change 3 (vcd [])  -- 4
+    ∷ change 1 (vcd [])
+    ∷ change 0 (raw 2 (0x08 ∷ []))  -- "0-"
+    ∷ []
+
+-- two blocks, of times 1 2 and 2 3; the event's streams are 00 and 01
+abbrev mixedImage : List ℕ
+mixedImage =
+    les 4 (4 ∷ 2 ∷ 2 ∷ 153 ∷ 2 ∷ 0 ∷ 0xfffffffe ∷ 0xffffffff ∷ [])
+    ++ (les 4 (68 ∷ 2 ∷ 4 ∷ 1 ∷ 4 ∷ 6 ∷ 0 ∷ []) ++ (les 8 (1 ∷ 2 ∷ [])
+    ++ (0x01 ∷ 0x01 ∷ 0x06 ∷ 0x00 ∷ 0x00 ∷ 0x00 ∷ 0x01 ∷ le 8 0x8000000000000000 ++ (0x00 ∷ le 8 0
+    ++ (les 4 (53 ∷ 2 ∷ 4 ∷ 1 ∷ 8 ∷ 0 ∷ 0 ∷ []) ++ (les 8 (2 ∷ 3 ∷ [])
+    ++ (0x02 ∷ 0x05 ∷ 0x06 ∷ 0x01 ∷ 0x06 ∷ 0x02 ∷ 0x08 ∷ 0x00 ∷ 0x01 ∷ [])))))))
+
+pub mixed-left : leftBy 2 4 mixed mixedCalls 153 ≡ mixedImage
+unfolding groups lebOf le unle symbolOf classOfAll allSymbols symbolsIn lastOr vcdBit textOf extended textSymbols numberOf digits packed unpacked rawSymbols decode changeBytes les dataOf offsetsFrom blockBytes headBytes wayOf itemsOf gather unknownKind startTests stateTests partsFrom cutOf timeOf changeOf finishOf startOf step run
+mixed-left = refl
+
+pub mixed-finish : step (ranFrom 2 4 mixed mixedCalls .last) finish .reply ≡ total 153
+unfolding groups lebOf le unle symbolOf classOfAll allSymbols symbolsIn lastOr vcdBit textOf extended textSymbols numberOf digits packed unpacked rawSymbols decode changeBytes les dataOf offsetsFrom blockBytes headBytes wayOf itemsOf gather unknownKind startTests stateTests partsFrom cutOf timeOf changeOf finishOf startOf step run
+mixed-finish = refl
+
+abbrev mixedReplies : List Reply
+mixedReplies =
+    calls.refuse 3 ∷ say taken ∷ say recorded ∷ say recorded ∷ say taken ∷ say recorded ∷ say recorded ∷ say back ∷ say skipped ∷ say calls.same ∷ say skipped
+    ∷ say taken ∷ say recorded ∷ say recorded ∷ calls.refuse 6 ∷ calls.refuse 4 ∷ say recorded ∷ say recorded ∷ []
+
+pub mixed-replies : (ranFrom 2 4 mixed mixedCalls .replies ≡ mixedReplies) × (ranFrom 2 4 mixed mixedCalls .last .state .skipped ≡ 2)
+unfolding groups lebOf le unle symbolOf classOfAll allSymbols symbolsIn lastOr vcdBit textOf extended textSymbols numberOf digits packed unpacked rawSymbols decode changeBytes les dataOf offsetsFrom blockBytes headBytes wayOf itemsOf gather unknownKind startTests stateTests partsFrom cutOf timeOf changeOf finishOf startOf step run
+mixed-replies = (refl, refl)
+
+-- the history, fed which of these are refusals: the same answers and count; times, kept changes and classes
+abbrev mixedTold : Telling
+mixedTold = tellAll (kindsOf (mixed .records)) noHistory mixedCalls (refusals mixedReplies)
+
+pub mixed-told : (mixedTold .answers ≡ heard mixedReplies) × (mixedTold .last .count ≡ 2) × (mixedTold .last .times ≡ 1 ∷ 2 ∷ 3 ∷ [])
+unfolding symbolOf classOfAll allSymbols symbolsIn lastOr vcdBit textOf extended textSymbols numberOf digits unpacked rawSymbols decode wayOf tell tellAll same listOf keptAfter kept topOf
+mixed-told = (refl, refl, refl)
+
+pub mixed-kept : (keptOf (mixedTold .last) 0 ≡ entry 0 (symbols (1 ∷ 2 ∷ [])) ∷ entry 2 (symbols (0 ∷ 8 ∷ [])) ∷ [])
+    × (keptOf (mixedTold .last) 1 ≡ entry 0 happened ∷ entry 2 happened ∷ [])
+    × (keptOf (mixedTold .last) 2 ≡ entry 1 (bits 0x8000000000000000) ∷ entry 1 (bits 0) ∷ [])
+    × (classOf (mixedTold .last) 0 ≡ 2) × (classOf (mixedTold .last) 1 ≡ 0) × (classOf (mixedTold .last) 2 ≡ 0)
+unfolding symbolOf classOfAll allSymbols symbolsIn lastOr vcdBit textOf extended textSymbols numberOf digits unpacked rawSymbols decode wayOf tell tellAll same listOf keptAfter kept topOf
+mixed-kept = (refl, refl, refl, refl, refl, refl)
+
+-- the image loads as these: at width 2, C Nine, a class byte precedes one byte
+pub mixed-loads : (openOf mixedImage ≡ true)
+    × (tableOf mixedImage (9 ∷ 9 ∷ 9 ∷ 9 ∷ []) ≡ tableAfter (counted 3) (1 ∷ 2 ∷ 3 ∷ 9 ∷ []))
+    × (loadOf mixedImage 0 (9 ∷ 9 ∷ 9 ∷ []) (replicate 5 9) ≡ loadAfter (loaded 2 2) (0 ∷ 2 ∷ 9 ∷ []) (0x40 ∷ 0x06 ∷ 0x80 ∷ 0x08 ∷ 9 ∷ []))
+    × (loadOf mixedImage 1 (9 ∷ 9 ∷ []) [] ≡ loadAfter (loaded 2 0) (0 ∷ 2 ∷ []) [])
+    × (loadOf mixedImage 2 (9 ∷ 9 ∷ []) (replicate 16 9) ≡ loadAfter (loaded 2 0) (1 ∷ 1 ∷ []) (0 ∷ 0 ∷ 0 ∷ 0 ∷ 0 ∷ 0 ∷ 0 ∷ 0x80 ∷ replicate 8 0))
+    × (loadOf mixedImage 3 (9 ∷ []) (9 ∷ []) ≡ loadAfter (reader.refuse 4) (9 ∷ []) (9 ∷ []))
+unfolding les parse imageForm headForm blockForm layoutForm repeat each lengths unle readLeb stream getChain readChange valueAfter unpacked classOfAll allSymbols digits numberOf lastOr imageBytes blocksBytes streamedParts streamBytes headBytes blockBytes dataOf offsetsFrom le lebOf groups changeBytes packed risingFrom? rising? eachBelow? knownKinds? contentFits? entryFits? entriesFit? partFits? partsFit? begins? filled? blockFits? blocksFit? valid? tableFrom tableIn moved repeatsLast pushed loadFrom entryBytes entriesBytes loadIn same
+mixed-loads = (refl, refl, refl, refl, refl, refl)

@@ -1,0 +1,101 @@
+-- Demand 3 of document 00: what a list of a recording's calls leaves loads as the list's history. Every name is that of a definition
+-- which the code's contracts cite: start, step and run (crate recording), history (history), opener, loading and table (loaded).
+-- Assumes nothing.
+use Prim.Native.Nat.{ℕ, _≤_, _<_, _*_, _^_}
+use mathlib.Core.Path.{_≡_}
+use mathlib.Core.Bool.{true}
+use mathlib.Core.List.{List, _++_, map}
+use lib.ListN.{length, take, getD}
+use lib.Seq.{sets}
+use Rattle.lists.specs.Bytes.{Bytes}
+use Rattle.signal.specs.declared.kind.SignalEncoding.{SignalEncoding}
+use Rattle.signal.specs.declared.kind.SignalEncoding.the-variants.{Absent}
+use Rattle.codec.specs.Valid.{Rising}
+use Rattle.recording.specs.Calls.{Call, finish, started, total, refusals, heard, Slice, Fitting}
+use Rattle.recording.specs.Memory.{Memory}
+use Rattle.recording.specs.Step.{startOf, step, run, Ran, kindsOf}
+use Rattle.history.specs.History.{History, noHistory, Telling, tellAll, keptOf, classOf}
+use Rattle.loaded.specs.Opener.{openOf}
+use Rattle.loaded.specs.EntryBytes.{entriesBytes}
+use Rattle.loaded.specs.Reader.{loadOf, loadAfter, loaded, indexIn, tableOf, tableAfter, counted}
+
+-- memory that can be lent: slices of bytes, and one of times of 64 bits
+pub record Lent (m : Memory) : Type 0 where
+  pub work : Slice (m .work)
+  pub image : Slice (m .image)
+  pub times : (i : ℕ) → getD (m .times) i 0 < 2 ^ 64
+  pub long : 8 * length (m .times) < 2 ^ 63
+
+-- "each on the state and buffers as the one before left them, nobody else writing there"
+abbrev pub ranFrom : (limit signals : ℕ) → Memory → List Call → Ran
+ranFrom limit signals m calls = run (startOf limit signals m .memory) calls
+
+-- "any list of a recording's calls (time; VCD, raw and real change; finish), refused and skipped ones included, from an accepted start to
+-- an accepted finish"
+pub record Recorded (limit signals : ℕ) (m : Memory) (calls : List Call) (size : ℕ) : Type 0 where
+  pub lent : Lent m
+  pub fitting : Fitting calls
+  pub start : startOf limit signals m .reply ≡ started
+  pub end : step (ranFrom limit signals m calls .last) finish .reply ≡ total size
+
+-- "The image left: the image buffer's first total bytes"
+abbrev pub leftBy : (limit signals : ℕ) → Memory → List Call → (size : ℕ) → List ℕ
+leftBy limit signals m calls size = take size (step (ranFrom limit signals m calls .last) finish .memory .image)
+
+-- "Fed: kinds, a list's calls and, of the answers, only which are refusals; nothing of the recorder's state"
+abbrev pub historyOf : (limit signals : ℕ) → Memory → List Call → Telling
+historyOf limit signals m calls = tellAll (kindsOf (m .records)) noHistory calls (refusals (ranFrom limit signals m calls .replies))
+
+abbrev pub keptBytes : List SignalEncoding → History → (signal : ℕ) → List ℕ
+keptBytes ks h g = entriesBytes (getD ks g Absent) (classOf h g) (keptOf h g)
+
+-- "loads as exactly the list's history"
+pub record LoadsAs (ks : List SignalEncoding) (h : History) (b : List ℕ) : Type 0 where
+  pub opens : openOf b ≡ true
+  -- "Given long enough outputs": "The table equals the times taken, strictly rising"
+  pub rising : Rising (h .times)
+  pub table : (out : List ℕ) → length (h .times) ≤ length out
+      → tableOf b out ≡ tableAfter (counted (length (h .times))) (sets out 0 (h .times))
+  -- "Each signal shows its kept changes, no more and no fewer, in call order, each with its content, at the last time taken before it";
+  -- "Loading a signal not absent answers its class and the number of its kept changes, with their places as indices and their contents as
+  -- entries of that class"
+  pub signals : (g : ℕ) (index bytes : List ℕ) → g < length ks → (getD ks g Absent ≡ Absent → ⊥)
+      → length (keptOf h g) ≤ length index → length (keptBytes ks h g) ≤ length bytes
+      → loadOf b g index bytes
+      ≡ loadAfter (loaded (length (keptOf h g)) (classOf h g)) (sets index 0 (map indexIn (keptOf h g))) (sets bytes 0 (keptBytes ks h g))
+
+-- some such list leaves the bytes
+pub record Leaves (b : List ℕ) : Type 0 where
+  pub limit : ℕ
+  pub signals : ℕ
+  pub memory : Memory
+  pub calls : List Call
+  pub size : ℕ
+  pub list : Recorded limit signals memory calls size
+  pub left : leftBy limit signals memory calls size ≡ b
+
+pub record Demand3 : Type 0 where
+  -- "the image left loads as exactly the list's history in document 01"
+  pub loads : (limit signals : ℕ) (m : Memory) (calls : List Call) (size : ℕ) → Recorded limit signals m calls size
+      → LoadsAs (kindsOf (m .records)) (historyOf limit signals m calls .last) (leftBy limit signals m calls size)
+  -- "The answers of times and changes that are no refusals, and the skipped count, are that history's too"
+  pub answers : (limit signals : ℕ) (m : Memory) (calls : List Call) (size : ℕ) → Recorded limit signals m calls size
+      → heard (ranFrom limit signals m calls .replies) ≡ historyOf limit signals m calls .answers
+  pub count : (limit signals : ℕ) (m : Memory) (calls : List Call) (size : ℕ) → Recorded limit signals m calls size
+      → ranFrom limit signals m calls .last .state .skipped ≡ historyOf limit signals m calls .last .count
+  -- "The opener accepts a byte string exactly when some such list leaves it"
+  pub accepted : (b : List ℕ) → Bytes b → openOf b ≡ true → Leaves b
+  pub only : (b : List ℕ) → Leaves b → openOf b ≡ true
+
+-- a unit that loses power, after a start and any calls: the used image bytes load as the history of the calls before the last cut (none
+-- before any cut; all of them after a finish)
+pub record UsedImage (limit signals : ℕ) (m : Memory) (calls : List Call) : Type 0 where
+  pub done : List Call
+  pub since : List Call
+  pub split : done ++ since ≡ calls
+  pub loads : let r = ranFrom limit signals m calls .last in
+      LoadsAs (kindsOf (m .records)) (historyOf limit signals m done .last) (take (r .state .image) (r .image))
+
+pub record PowerLoss : Type 0 where
+  pub used : (limit signals : ℕ) (m : Memory) (calls : List Call) → Lent m → Fitting calls → startOf limit signals m .reply ≡ started
+      → UsedImage limit signals m calls

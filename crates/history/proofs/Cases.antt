@@ -1,0 +1,41 @@
+-- What the calls of the bench sheet's skip say: the same answers and count as the recorder's (recording/proofs/Cases: skip-stands).
+-- Assumes nothing.
+use Prim.Native.Nat.{ℕ}
+use mathlib.Core.Path.{_≡_, refl}
+use mathlib.Core.Bool.{Bool, false}
+use mathlib.Core.List.{List, [], _∷_}
+use Rattle.lists.specs.Last.{lastOr}
+use Rattle.lists.specs.Same.{same}
+use Rattle.value.specs.Symbol.{symbolOf}
+use Rattle.value.specs.Class.{classOfAll}
+use Rattle.vcd.specs.Vcd.{symbolsIn, vcdBit}
+use Rattle.signal.specs.Content.{vcd, symbols, bits, real, happened, decode}
+use Rattle.signal.specs.declared.kind.SignalEncoding.the-variants.{BitVector, Real}
+use Rattle.stream.specs.Entries.{entry}
+use Rattle.recording.specs.Calls.{Call, time, change, wayOf, taken, back, recorded, skipped}
+use Rattle.recording.specs.Calls as calls
+use Rattle.history.specs.History.{noHistory, tell, tellAll, listOf, keptAfter, kept, keptOf, topOf, classOf}
+
+-- times 10, 5, 10, 11, a change after each: 1, 0, 0, 1
+abbrev skips : List Call
+skips = time 10 ∷ change 0 (vcd (49 ∷ [])) ∷ time 5 ∷ change 0 (vcd (48 ∷ [])) ∷ time 10 ∷ change 0 (vcd (48 ∷ [])) ∷ time 11 ∷ change 0 (vcd (49 ∷ [])) ∷ []
+
+-- the history of these calls, none refused: the same answers and count; the second 1 repeats the first and is not kept
+abbrev none-refused : List Bool
+none-refused = false ∷ false ∷ false ∷ false ∷ false ∷ false ∷ false ∷ false ∷ []
+
+pub history-answers : tellAll (BitVector 1 ∷ []) noHistory skips none-refused .answers
+    ≡ taken ∷ recorded ∷ back ∷ skipped ∷ calls.same ∷ skipped ∷ taken ∷ recorded ∷ []
+unfolding symbolOf classOfAll symbolsIn lastOr vcdBit decode wayOf tell tellAll
+history-answers = refl
+
+pub history-keeps : let h = tellAll (BitVector 1 ∷ []) noHistory skips none-refused .last in
+    (h .times ≡ 10 ∷ 11 ∷ []) × (h .count ≡ 2) × (keptOf h 0 ≡ entry 0 (symbols (1 ∷ [])) ∷ []) × (classOf h 0 ≡ 0) × (classOf h 1 ≡ 2)
+unfolding symbolOf classOfAll symbolsIn lastOr vcdBit decode wayOf tell tellAll same listOf keptAfter kept topOf
+history-keeps = (refl, refl, refl, refl, refl)
+
+-- -0.0 and 0.0 are two contents; an event after an event is kept
+pub zeros-differ : let h = tellAll (Real ∷ BitVector 0 ∷ []) noHistory (time 1 ∷ change 0 (real 0) ∷ change 0 (real 0x8000000000000000) ∷ change 1 (vcd []) ∷ change 1 (vcd []) ∷ []) (false ∷ false ∷ false ∷ false ∷ false ∷ []) .last in
+    (keptOf h 0 ≡ entry 0 (bits 0) ∷ entry 0 (bits 0x8000000000000000) ∷ []) × (keptOf h 1 ≡ entry 0 happened ∷ entry 0 happened ∷ [])
+unfolding lastOr decode wayOf tell tellAll same listOf keptAfter kept
+zeros-differ = (refl, refl)

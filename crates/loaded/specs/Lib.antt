@@ -1,0 +1,4 @@
+pub mod Opener
+pub mod Loading
+pub mod EntryBytes
+pub mod Reader

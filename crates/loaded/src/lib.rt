@@ -1,0 +1,25 @@
+// The answers of the calls that read an image: document 01, 'Loaded signal'.
+//
+// What each call does is defined in specs/Reader.antt, over specs/Opener.antt, specs/Loading.antt and specs/EntryBytes.antt.
+use value::real::Entry;
+use value::states::States;
+
+pub enum LoadAnswer {
+    // The number of kept entries and the signal's class.
+    Loaded(u32, States),
+    Refused(u32),
+}
+
+pub enum TableAnswer {
+    // The combined table's length.
+    Table(u32),
+    Refused(u32),
+}
+
+pub enum CursorAnswer {
+    // The entry's number, its time and its value; a vector's symbols stand in the lent buffer.
+    Found(u32, u64, Entry),
+    // The signal has no entries.
+    Nothing,
+    Refused(u32),
+}
