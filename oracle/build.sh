@@ -91,6 +91,7 @@ add() {
 
 add driver/main.rs bin/oracle.rs
 add driver/wavemem.rs wavemem/oracle.rs
+add driver/recordings.rs wavemem/oracle/recordings.rs
 add driver/signal.rs signal/oracle.rs
 add standins/modules/ghw.rs ghw.rs
 add standins/modules/simple.rs simple.rs

@@ -3,9 +3,16 @@ fn main() {
     let arguments: Vec<&str> = arguments.iter().map(String::as_str).collect();
     match arguments[..] {
         ["values"] => wellen::oracle::values(),
+        ["recordings"] => wellen::oracle::recordings(false),
+        ["blocks"] => wellen::oracle::recordings(true),
         ["selftest"] => wellen::oracle::selftest(),
         _ => {
-            eprintln!("usage: oracle values <QUESTIONS >ANSWERS\n       oracle selftest");
+            eprintln!(
+                "usage: oracle values <QUESTIONS >ANSWERS\n       \
+                oracle recordings <CALLS >ANSWERS\n       \
+                oracle blocks <CALLS >BLOCKS\n       \
+                oracle selftest"
+            );
             std::process::exit(2);
         }
     }

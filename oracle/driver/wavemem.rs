@@ -9,6 +9,9 @@ use std::panic::{AssertUnwindSafe, catch_unwind};
 use std::sync::LazyLock;
 use std::sync::atomic::{AtomicBool, AtomicU16, Ordering::Relaxed};
 
+mod recordings;
+pub use recordings::recordings;
+
 // The limit B, the number of times that a block holds.
 
 static BLOCK_LIMIT: AtomicU16 = AtomicU16::new(BlockTimeIdx::MAX);
@@ -378,6 +381,8 @@ pub fn selftest() {
         0A00000000000000 1400000000000000 00 01 01 01 06 04 01";
     let expected = expected.replace(' ', "").to_lowercase();
     assert_eq!(hex(&image(&widths, &encoder.blocks)), expected);
+
+    recordings::selftest();
 
     println!("selftest passed");
 }
