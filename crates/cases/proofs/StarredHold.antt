@@ -18,7 +18,7 @@ use Rattle.image.specs.Block.{les, dataOf, offsetsFrom, blockBytes}
 use Rattle.image.specs.Head.{headBytes}
 use Rattle.recording.specs.Calls.{time, change, finish, wayOf}
 use Rattle.recording.specs.Work.{itemsOf, gather}
-use Rattle.recording.specs.TurnedBack.{unknownKind, startTests, stateTests}
+use Rattle.recording.specs.Refusals.{unknownKind, startTests, stateTests}
 use Rattle.recording.specs.Step.{partsFrom, cutOf, timeOf, changeOf, finishOf, startOf, step, run}
 use Rattle.loaded.specs.EntryBytes.{entryBytes}
 use Rattle.recording.specs.Runs.{lent, ran, imageLeft}

@@ -8,8 +8,8 @@ use lib.ListN.{length, getD, set}
 use Rattle.lists.specs.Choice.{pick}
 use Rattle.signal.specs.Content.{Given, Decoded, refuse, accept, decode}
 use Rattle.stream.specs.Stream.{changeBytes}
-use Rattle.recording.specs.Memory.{Memory, memory, After, after, recordAt, Tests, turned, refused}
-use Rattle.recording.specs.TurnedBack.{openTests, earlyTests, signalTests, roomTests}
+use Rattle.recording.specs.Memory.{Memory, memory, After, after, recordAt, Tests, guarded, refused}
+use Rattle.recording.specs.Refusals.{openTests, earlyTests, signalTests, roomTests}
 use Rattle.recording.specs.Step.{changeBy, changeOf}
 use Rattle.change.specs.Found.{Found, foundRefused, foundDone, foundBy, foundOf, afterChange}
 
@@ -29,9 +29,9 @@ module _ (m : Memory) (g : ℕ) where
   picked-whole true x y e f = e
   picked-whole false x y e f = f
 
-  turned-whole : (ts : Tests) (e : Found) {e′ : After} → afterChange m g e ≡ e′ → afterChange m g (turned ts stays e) ≡ turned ts (refused m) e′
-  turned-whole [] e h = h
-  turned-whole (t ∷ ts) e h = picked-whole (t .0) _ _ (refused-whole (t .1)) (turned-whole ts e h)
+  guarded-whole : (ts : Tests) (e : Found) {e′ : After} → afterChange m g e ≡ e′ → afterChange m g (guarded ts stays e) ≡ guarded ts (refused m) e′
+  guarded-whole [] e h = h
+  guarded-whole (t ∷ ts) e h = picked-whole (t .0) _ _ (refused-whole (t .1)) (guarded-whole ts e h)
 
   by-whole : (d : Decoded) → afterChange m g (foundBy (m .state) (recordAt m g) (m .work) g d) ≡ changeBy m g d
   unfolding foundBy
@@ -39,14 +39,14 @@ module _ (m : Memory) (g : ℕ) where
   by-whole (accept a c) =
       let r = recordAt m g in
       let b = changeBytes (r .kind) (m .state .held - 1 - r .index) a in
-      turned-whole (roomTests (m .state) r (length (m .work)) (length b)) (foundDone (m .state) r (m .work) g b c) refl
+      guarded-whole (roomTests (m .state) r (length (m .work)) (length b)) (foundDone (m .state) r (m .work) g b c) refl
 
   pub change-found : (v : Given)
       → changeOf m g v ≡ afterChange m g (foundOf (m .state) (recordAt m g) (length (m .records)) (length (m .times)) (length (m .image)) (m .work) g v)
   unfolding changeOf foundOf
   change-found v =
       sym
-      (turned-whole (openTests m) _
-      (turned-whole (earlyTests (m .state)) _
+      (guarded-whole (openTests m) _
+      (guarded-whole (earlyTests (m .state)) _
       (picked-whole (m .state .skip) _ _ (rw (set-same (m .records) g _) refl)
-      (turned-whole (signalTests (m .state) (recordAt m g) g) _ (by-whole (decode (recordAt m g .kind) v))))))
+      (guarded-whole (signalTests (m .state) (recordAt m g) g) _ (by-whole (decode (recordAt m g .kind) v))))))

@@ -26,10 +26,10 @@ use Rattle.recording.specs.declared.SignalRecord.{SignalRecord}
 use Rattle.recording.specs.declared.Answer.{Answer}
 use Rattle.recording.specs.Calls.{Reply, replyOf, say, recorded, skipped}
 use Rattle.recording.specs.Work.{item, itemBytes}
-use Rattle.recording.specs.Memory.{Memory, memory, After, after, recordAt, recordOf, Tests, first, turned, refused}
-use Rattle.recording.specs.TurnedBack.{stateTests, openTests, earlyTests, signalTests, roomTests}
+use Rattle.recording.specs.Memory.{Memory, memory, After, after, recordAt, recordOf, Tests, first, guarded, refused}
+use Rattle.recording.specs.Refusals.{stateTests, openTests, earlyTests, signalTests, roomTests}
 use Rattle.recording.specs.Step.{skippedOne, changeBy, changeOf}
-use Rattle.refusals.proofs.TestsLaws.{turned-none, turned-first}
+use Rattle.refusals.proofs.TestsLaws.{guarded-none, guarded-first}
 use Rattle.refusals.proofs.StateLaws.{state-positive}
 use Rattle.change.specs.Found.{Found, found, foundRefused, foundDone, foundBy, foundOf}
 
@@ -42,20 +42,20 @@ module _ (s : Encoder) (r : SignalRecord) (records times image : ℕ) (w : List 
   pub found-state : (first (stateTests s records times (length w) image) ≡ 0 → ⊥)
       → foundOf s r records times image w g v ≡ foundRefused s r w (first (stateTests s records times (length w) image))
   unfolding foundOf
-  found-state n = turned-first (stateTests s records times (length w) image) (foundRefused s r w) _ n
+  found-state n = guarded-first (stateTests s records times (length w) image) (foundRefused s r w) _ n
 
   abbrev heard : Found
   heard =
       pick (s .skip) (found (say skipped) (skippedOne s) r w)
-      (turned (signalTests s r g) (foundRefused s r w) (foundBy s r w g (decode (r .kind) v)))
+      (guarded (signalTests s r g) (foundRefused s r w) (foundBy s r w g (decode (r .kind) v)))
 
   abbrev past : Found
   past =
-      turned (earlyTests s) (foundRefused s r w) heard
+      guarded (earlyTests s) (foundRefused s r w) heard
 
   found-past : first (stateTests s records times (length w) image) ≡ 0 → foundOf s r records times image w g v ≡ past
   unfolding foundOf
-  found-past z = turned-none (stateTests s records times (length w) image) (foundRefused s r w) past (state-positive s records times (length w) image) z
+  found-past z = guarded-none (stateTests s records times (length w) image) (foundRefused s r w) past (state-positive s records times (length w) image) z
 
   pub found-early : first (stateTests s records times (length w) image) ≡ 0 → s .held ≡ 0 → foundOf s r records times image w g v ≡ foundRefused s r w 3
   found-early z h = found-past z ∙ rw (eq-eqb (s .held) 0 h) refl
@@ -112,7 +112,7 @@ max-states a (suc (suc c)) = nine (max a (suc (suc c))) (omega arith) ∙ sym (n
 abbrev written : Encoder → SignalRecord → List ℕ → ℕ → Decoded → States → Found
 written s r w g d t =
     let b = changeBytes (r .kind) (s .held - 1 - r .index) (contentOf d) in
-    turned (roomTests s r (length w) (length b)) (foundRefused s r w) (foundDone s r w g b (classNumber t))
+    guarded (roomTests s r (length w) (length b)) (foundRefused s r w) (foundDone s r w g b (classNumber t))
 
 found-written : (s : Encoder) (r : SignalRecord) (w : List ℕ) (g : ℕ) (d : Decoded) (v : ChangeValue) (t : States) → decodedAs (r .kind) d ≡ Change v t
     → foundBy s r w g d ≡ written s r w g d t

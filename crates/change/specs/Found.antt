@@ -15,8 +15,8 @@ use Rattle.recording.specs.declared.SignalRecord.{SignalRecord}
 use Rattle.recording.specs.Calls as calls
 use Rattle.recording.specs.Calls.{Reply, say, recorded, skipped}
 use Rattle.recording.specs.Work.{item, itemBytes}
-use Rattle.recording.specs.Memory.{Memory, memory, After, after, recordOf, turned}
-use Rattle.recording.specs.TurnedBack.{stateTests, earlyTests, signalTests, roomTests}
+use Rattle.recording.specs.Memory.{Memory, memory, After, after, recordOf, guarded}
+use Rattle.recording.specs.Refusals.{stateTests, earlyTests, signalTests, roomTests}
 use Rattle.recording.specs.Step.{encoder, skippedOne}
 use Rattle.change.specs.declared.notation.Value.{Value}
 use Rattle.change.specs.declared.notation.Value.the-variants as value
@@ -52,14 +52,14 @@ unfoldable pub foundBy : Encoder → SignalRecord → List ℕ → (signal : ℕ
 foundBy s r w g (refuse n) = foundRefused s r w n
 foundBy s r w g (accept a c) =
     let b = changeBytes (r .kind) (s .held - 1 - r .index) a in
-    turned (roomTests s r (length w) (length b)) (foundRefused s r w) (foundDone s r w g b c)
+    guarded (roomTests s r (length w) (length b)) (foundRefused s r w) (foundDone s r w g b c)
 
 unfoldable pub foundOf : Encoder → SignalRecord → (records times image : ℕ) → (work : List ℕ) → (signal : ℕ) → Given → Found
 foundOf s r records times image w g v =
-    turned (stateTests s records times (length w) image) (foundRefused s r w)
-    (turned (earlyTests s) (foundRefused s r w)
+    guarded (stateTests s records times (length w) image) (foundRefused s r w)
+    (guarded (earlyTests s) (foundRefused s r w)
     (pick (s .skip) (found (say skipped) (skippedOne s) r w)
-    (turned (signalTests s r g) (foundRefused s r w)
+    (guarded (signalTests s r g) (foundRefused s r w)
     (foundBy s r w g (decode (r .kind) v)))))
 
 -- the memory after a change: of the records only the signal's differs

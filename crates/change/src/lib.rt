@@ -9,7 +9,7 @@ use recording::Answer;
 use recording::Encoder;
 use recording::SignalRecord;
 use recording::SignalRef;
-use refusals::Lent;
+use refusals::Lengths;
 use refusals::state_refusal;
 use signal::decode::ChangeValue;
 use signal::decode::DecodedChange;
@@ -62,7 +62,7 @@ fn skipped(state: Encoder, kept: SignalRecord) -> Changed
     }
 }
 
-// The work buffer has n more bytes; the record has the last time's index, and its top class rises to a value's.
+// The work buffer has n more bytes; the record has the last time's index, and its top class is at least the value's.
 fn recorded(state: Encoder, kept: SignalRecord, n: usize, states: States) -> Changed
     requires { ⌜ (state .work + n < 18446744073709551616) × (0 < state .held) ⌝ }
     ensures { λ r. ⌜ (r .answer ≡ Answer.Recorded) × (r .state ≡ working state n) × (r .kept ≡ risen state kept (classNumber states)) ⌝ }
@@ -128,7 +128,7 @@ fn record_change(
 pub fn change_found(
     state: Encoder,
     kept: SignalRecord,
-    lent: Lent,
+    lent: Lengths,
     signal: SignalRef,
     value: Value,
     bytes: &[u8],

@@ -1,4 +1,4 @@
--- What a recording has between two calls: finished blocks, each full, so that another may follow; the end and the top classes that they
+-- What an open recording has between two calls: finished blocks, each full, so that another may follow; the end and the top classes that they
 -- leave; the index of a stream's last entry.
 -- Assumes nothing.
 use Prim.Native.Nat.{ℕ}

@@ -14,7 +14,7 @@ ghost use lib.ListN.{length, take, getD, set};
 ghost use lib.Seq.{sets};
 ghost use Rattle.image.specs.Block.{blockBytes, blockSize};
 ghost use Rattle.recording.specs.Memory.{memory, first};
-ghost use Rattle.recording.specs.TurnedBack.{stateTests};
+ghost use Rattle.recording.specs.Refusals.{stateTests};
 ghost use Rattle.recording.specs.Step.{rewound, cutOf, cutBlock, cutIn};
 ghost use Rattle.storage.specs.Storage.{recordsOf};
 ghost use Rattle.work.specs.Measure.{dataLength};
@@ -63,7 +63,7 @@ fn begin_next(state: Encoder, records: &mut [u64], times: &mut [u64])
     times[0] = times[state.held as usize - 1];
 }
 
-// Cuts a block of a state that no test of its own turns back. 10: the work does not divide into records of numbers below S. 8: the block
+// Cuts a block of a state that no test of its own refuses. 10: the work does not divide into records of numbers below S. 8: the block
 // exceeds the unused image bytes; it is compared in 64 bits, as S and the work may have been altered.
 pub fn cut(
     state: Encoder,

@@ -27,7 +27,7 @@ use Rattle.recording.specs.Calls.{Call, time, change, finish, taken, back, reco
 use Rattle.recording.specs.Calls as calls
 use Rattle.recording.specs.Work.{itemsOf, gather}
 use Rattle.recording.specs.Memory.{Memory, memory, recordOf}
-use Rattle.recording.specs.TurnedBack.{unknownKind, startTests, stateTests}
+use Rattle.recording.specs.Refusals.{unknownKind, startTests, stateTests}
 use Rattle.recording.specs.Step.{encoder, partsFrom, cutOf, timeOf, changeOf, finishOf, startOf, step, run, kindsOf}
 use Rattle.history.specs.History.{Telling, noHistory, tell, tellAll, listOf, keptAfter, kept, keptOf, topOf, classOf}
 use Rattle.form.specs.Form.{repeat, each, getChain}

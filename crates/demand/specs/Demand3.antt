@@ -1,16 +1,22 @@
--- Demand 3 of document 00: what a list of a recording's calls leaves loads as the list's history. Every name is that of a definition
--- which the code's contracts cite: start, step and run (crate recording), history (history), opener, loading and table (loaded).
+-- Demand 3 of document 00: what a list of a recording's calls leaves loads as the list's history. It is stated over the
+-- definitions that the contracts cite: startOf, and step and run, which are made of timeOf, changeOf and finishOf (crate recording); openOf,
+-- loadOf and tableOf (loaded); and over the history (history).
 -- Assumes nothing.
 use Prim.Native.Nat.{ℕ, _≤_, _<_, _*_, _^_}
 use mathlib.Core.Path.{_≡_}
 use mathlib.Core.Bool.{true}
-use mathlib.Core.List.{List, _++_, map}
+use mathlib.Core.List.{List, [], _∷_, _++_, map}
 use lib.ListN.{length, take, getD}
 use lib.Seq.{sets}
+use lib.Dec.{eqb}
 use Rattle.lists.specs.Bytes.{Bytes}
+use Rattle.lists.specs.Choice.{pick}
 use Rattle.signal.specs.declared.kind.SignalEncoding.{SignalEncoding}
 use Rattle.signal.specs.declared.kind.SignalEncoding.the-variants.{Absent}
+use Rattle.signal.specs.Kind.{widthOf}
 use Rattle.codec.specs.Valid.{Rising}
+use Rattle.recording.specs.declared.Encoder.{Encoder}
+use Rattle.recording.specs.declared.SignalRecord.{SignalRecord}
 use Rattle.recording.specs.Calls.{Call, finish, started, total, refusals, heard, Slice, Fitting}
 use Rattle.recording.specs.Memory.{Memory}
 use Rattle.recording.specs.Step.{startOf, step, run, Ran, kindsOf}
@@ -19,8 +25,27 @@ use Rattle.loaded.specs.Opener.{openOf}
 use Rattle.loaded.specs.EntryBytes.{entriesBytes}
 use Rattle.loaded.specs.Reader.{loadOf, loadAfter, loaded, indexIn, tableOf, tableAfter, counted}
 
--- memory that can be lent: slices of bytes, and one of times of 64 bits
+-- a state and a record as their types can hold them
+pub record StateFits (s : Encoder) : Type 0 where
+  pub limit : s .limit < 2 ^ 32
+  pub signals : s .signals < 2 ^ 32
+  pub held : s .held < 2 ^ 32
+  pub work : s .work < 2 ^ 64
+  pub image : s .image < 2 ^ 32
+  pub blocks : s .blocks < 2 ^ 32
+  pub skipped : s .skipped < 2 ^ 32
+
+abbrev pub RecordFits : SignalRecord → Type 0
+RecordFits r = (widthOf (r .kind) < 2 ^ 32) × (r .index < 2 ^ 32)
+
+unfoldable pub RecordsFit : List SignalRecord → Type 0
+RecordsFit [] = Unit {0}
+RecordsFit (r ∷ rs) = RecordFits r × RecordsFit rs
+
+-- memory that can be lent: a state and records of their types, slices of bytes, and one of times of 64 bits
 pub record Lent (m : Memory) : Type 0 where
+  pub state : StateFits (m .state)
+  pub records : RecordsFit (m .records)
   pub work : Slice (m .work)
   pub image : Slice (m .image)
   pub times : (i : ℕ) → getD (m .times) i 0 < 2 ^ 64
@@ -82,20 +107,22 @@ pub record Demand3 : Type 0 where
   pub answers : (limit signals : ℕ) (m : Memory) (calls : List Call) (size : ℕ) → Recorded limit signals m calls size
       → heard (ranFrom limit signals m calls .replies) ≡ historyOf limit signals m calls .answers
   pub count : (limit signals : ℕ) (m : Memory) (calls : List Call) (size : ℕ) → Recorded limit signals m calls size
-      → ranFrom limit signals m calls .last .state .skipped ≡ historyOf limit signals m calls .last .count
+      → step (ranFrom limit signals m calls .last) finish .memory .state .skipped ≡ historyOf limit signals m calls .last .count
   -- "The opener accepts a byte string exactly when some such list leaves it"
   pub accepted : (b : List ℕ) → Bytes b → openOf b ≡ true → Leaves b
   pub only : (b : List ℕ) → Leaves b → openOf b ≡ true
 
--- a unit that loses power, after a start and any calls: the used image bytes load as the history of the calls before the last cut (none
--- before any cut; all of them after a finish)
-pub record UsedImage (limit signals : ℕ) (m : Memory) (calls : List Call) : Type 0 where
-  pub done : List Call
-  pub since : List Call
-  pub split : done ++ since ≡ calls
-  pub loads : let r = ranFrom limit signals m calls .last in
-      LoadsAs (kindsOf (m .records)) (historyOf limit signals m done .last) (take (r .state .image) (r .image))
+-- beyond the demand: what a recording without a finish leaves, as when a unit loses its power. The calls that are in the image: those before
+-- the last one that cut a block; all of them once it is closed. `held` are those found so far, `done` all calls before these
+unfoldable pub callsIn : Memory → (held done : List Call) → List Call → List Call
+callsIn m held done [] = held
+callsIn m held done (c ∷ cs) =
+    let n = step m c .memory in
+    let all = done ++ c ∷ [] in
+    callsIn n (pick (n .state .closed) all (pick (eqb (n .state .blocks) (m .state .blocks)) held done)) all cs
 
+-- the used image bytes load as the history of these
 pub record PowerLoss : Type 0 where
   pub used : (limit signals : ℕ) (m : Memory) (calls : List Call) → Lent m → Fitting calls → startOf limit signals m .reply ≡ started
-      → UsedImage limit signals m calls
+      → let r = ranFrom limit signals m calls .last in
+      LoadsAs (kindsOf (m .records)) (historyOf limit signals m (callsIn (startOf limit signals m .memory) [] [] calls) .last) (take (r .state .image) (r .image))

@@ -17,8 +17,8 @@ use Rattle.recording.specs.declared.Answer.{Answer}
 use Rattle.recording.specs.declared.Encoder.{Encoder}
 use Rattle.recording.specs.declared.SignalRecord.{SignalRecord}
 use Rattle.recording.specs.Calls.{replyOf}
-use Rattle.recording.specs.Memory.{memory, after, recordOf, Tests, first, turned}
-use Rattle.recording.specs.TurnedBack.{stateTests, earlyTests, signalTests, roomTests}
+use Rattle.recording.specs.Memory.{memory, after, recordOf, Tests, first, guarded}
+use Rattle.recording.specs.Refusals.{stateTests, earlyTests, signalTests, roomTests}
 use Rattle.recording.specs.Step.{changeOf}
 use Rattle.storage.specs.Storage.{recordsOf, Storable}
 use Rattle.storage.proofs.StorageLaws.{storable-with, records-length}
@@ -32,16 +32,16 @@ module _ (s : Encoder) (r : SignalRecord) (w : List ℕ) (g : ℕ) (fits : Stora
   picked-fits true x y p q = p
   picked-fits false x y p q = q
 
-  turned-fits : (ts : Tests) (e : Found) → Storable (e .kept) → Storable (turned ts (foundRefused s r w) e .kept)
-  turned-fits [] e h = h
-  turned-fits (t ∷ ts) e h = picked-fits (t .0) (foundRefused s r w (t .1)) (turned ts (foundRefused s r w) e) fits (turned-fits ts e h)
+  guarded-fits : (ts : Tests) (e : Found) → Storable (e .kept) → Storable (guarded ts (foundRefused s r w) e .kept)
+  guarded-fits [] e h = h
+  guarded-fits (t ∷ ts) e h = picked-fits (t .0) (foundRefused s r w (t .1)) (guarded ts (foundRefused s r w) e) fits (guarded-fits ts e h)
 
   by-fits : s .held ≤ 65535 → (d : Decoded) → Storable (foundBy s r w g d .kept)
   unfolding foundBy
   by-fits h (refuse n) = fits
   by-fits h (accept a c) =
       let b = changeBytes (r .kind) (s .held - 1 - r .index) a in
-      turned-fits (roomTests s r (length w) (length b)) (foundDone s r w g b c) (storable-with r (s .held - 1) (statesOf (max (classNumber (r .top)) c)) fits (omega arith))
+      guarded-fits (roomTests s r (length w) (length b)) (foundDone s r w g b c) (storable-with r (s .held - 1) (statesOf (max (classNumber (r .top)) c)) fits (omega arith))
 
   pub kept-fits : (records times image : ℕ) (v : Given) → Storable (foundOf s r records times image w g v .kept)
   unfolding foundOf
@@ -50,10 +50,10 @@ module _ (s : Encoder) (r : SignalRecord) (w : List ℕ) (g : ℕ) (fits : Stora
       by : Dec (first (stateTests s records times (length w) image) ≡ 0) → Storable (foundOf s r records times image w g v .kept)
       by (yes z) =
           let h = sound s records times (length w) image z in
-          turned-fits (stateTests s records times (length w) image) _
-          (turned-fits (earlyTests s) _
+          guarded-fits (stateTests s records times (length w) image) _
+          (guarded-fits (earlyTests s) _
           (picked-fits (s .skip) _ _ fits
-          (turned-fits (signalTests s r g) _ (by-fits (omega (arith, h .held, h .high)) (decode (r .kind) v)))))
+          (guarded-fits (signalTests s r g) _ (by-fits (omega (arith, h .held, h .high)) (decode (r .kind) v)))))
       by (no n) = subst (λ (f : Found). Storable (f .kept)) (sym (found-state s r records times image w g v n)) fits
 
 -- the parts of a change call

@@ -12,7 +12,7 @@ use Rattle.recording.specs.declared.Answer.the-variants.{Finished, Refused}
 use Rattle.recording.specs.declared.Encoder.{Encoder}
 use Rattle.recording.specs.Calls.{replyOf}
 use Rattle.recording.specs.Memory.{Memory, memory, after, first}
-use Rattle.recording.specs.TurnedBack.{stateTests}
+use Rattle.recording.specs.Refusals.{stateTests}
 use Rattle.recording.specs.Step.{cutOf, closedNow, closing, finishCut, finishOf}
 use Rattle.storage.specs.Storage.{recordsOf}
 use Rattle.cut.specs.Cut.{afterCut, cutBy}

@@ -14,15 +14,15 @@ use Rattle.image.specs.Head.{headSize, headBytes, imageLimit}
 use Rattle.recording.specs.declared.Answer.the-variants.{Started, Refused}
 use Rattle.recording.specs.declared.Encoder.{Encoder}
 use Rattle.recording.specs.Calls.{replyOf}
-use Rattle.recording.specs.Memory.{Memory, memory, After, after, Tests, first, turned, refused}
-use Rattle.recording.specs.TurnedBack.{unknownKind, startTests}
+use Rattle.recording.specs.Memory.{Memory, memory, After, after, Tests, first, guarded, refused}
+use Rattle.recording.specs.Refusals.{unknownKind, startTests}
 use Rattle.recording.specs.Step.{encoder, fresh, kindIn, startOf}
 use Rattle.recording.proofs.StartCases.{Startable, begunIn, start-fits}
 use Rattle.storage.specs.Storage.{recordsOf}
 use Rattle.storage.proofs.StorageLaws.{records-length}
-use Rattle.refusals.proofs.TestsLaws.{none-of, turned-first}
+use Rattle.refusals.proofs.TestsLaws.{none-of, guarded-first}
 
--- what holds where no test turns a start back
+-- what holds where no test refuses a start
 pub startable : (limit signals records : ℕ) (unknown : Bool) (times image : ℕ)
     → first (startTests limit signals records unknown times image) ≡ 0 → Startable limit signals records unknown times image
 unfolding startTests
@@ -49,7 +49,7 @@ testsIn l s m = startTests l s (length (m .records)) (unknownKind (m .records)) 
 pub start-refused : (limit signals : ℕ) (m : Memory) → (first (testsIn limit signals m) ≡ 0 → ⊥)
     → startOf limit signals m ≡ refused m (first (testsIn limit signals m))
 unfolding startOf
-start-refused l s m n = turned-first (testsIn l s m) (refused m) (begunIn l s m) n
+start-refused l s m n = guarded-first (testsIn l s m) (refused m) (begunIn l s m) n
 
 pub start-done : (limit signals : ℕ) (m : Memory) → first (testsIn limit signals m) ≡ 0 → startOf limit signals m ≡ begunIn limit signals m
 start-done l s m z = start-fits l s m (startable l s (length (m .records)) (unknownKind (m .records)) (length (m .times)) (length (m .image)) z)
@@ -86,16 +86,16 @@ lentWork w m = memory (m .state) (m .records) (m .times) w (m .image)
 abbrev pub withWork : List ℕ → After → After
 withWork w a = after (a .reply) (lentWork w (a .memory))
 
-turned-work : (w : List ℕ) (ts : Tests) (m : Memory) (e : After) → turned ts (refused (lentWork w m)) (withWork w e) ≡ withWork w (turned ts (refused m) e)
-turned-work w [] m e = refl
-turned-work w (t ∷ ts) m e = by (t .0) (turned-work w ts m e)
+guarded-work : (w : List ℕ) (ts : Tests) (m : Memory) (e : After) → guarded ts (refused (lentWork w m)) (withWork w e) ≡ withWork w (guarded ts (refused m) e)
+guarded-work w [] m e = refl
+guarded-work w (t ∷ ts) m e = by (t .0) (guarded-work w ts m e)
   where
-    by : (b : Bool) → turned ts (refused (lentWork w m)) (withWork w e) ≡ withWork w (turned ts (refused m) e)
-        → pick b (refused (lentWork w m) (t .1)) (turned ts (refused (lentWork w m)) (withWork w e)) ≡ withWork w (pick b (refused m (t .1)) (turned ts (refused m) e))
+    by : (b : Bool) → guarded ts (refused (lentWork w m)) (withWork w e) ≡ withWork w (guarded ts (refused m) e)
+        → pick b (refused (lentWork w m) (t .1)) (guarded ts (refused (lentWork w m)) (withWork w e)) ≡ withWork w (pick b (refused m (t .1)) (guarded ts (refused m) e))
     by true h = refl
     by false h = h
 
 -- a start with another work buffer gives the same, but for that buffer, which stays as it was lent
 pub start-work : (limit signals : ℕ) (m : Memory) (w : List ℕ) → startOf limit signals (lentWork w m) ≡ withWork w (startOf limit signals m)
 unfolding startOf
-start-work l s m w = turned-work w (testsIn l s m) m (begunIn l s m)
+start-work l s m w = guarded-work w (testsIn l s m) m (begunIn l s m)

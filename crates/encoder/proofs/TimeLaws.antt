@@ -17,7 +17,7 @@ use Rattle.recording.specs.declared.Encoder.{Encoder}
 use Rattle.recording.specs.declared.SignalRecord.{SignalRecord}
 use Rattle.recording.specs.Calls.{replyOf, Way, above, equal, below, wayOf}
 use Rattle.recording.specs.Memory.{Memory, memory, after, first}
-use Rattle.recording.specs.TurnedBack.{stateTests}
+use Rattle.recording.specs.Refusals.{stateTests}
 use Rattle.recording.specs.Step.{cutOf, timed, timeCut, timeBy, timeOf}
 use Rattle.storage.specs.Storage.{recordsOf}
 use Rattle.cut.specs.Cut.{afterCut, cutBy}

@@ -4,7 +4,7 @@ use change::change_found;
 use change::notation::Value;
 use recording::Encoder;
 use recording::SignalRef;
-use refusals::Lent;
+use refusals::Lengths;
 use storage::find_record;
 use storage::put_record;
 ghost use mathlib.Core.Path.{_≡_};
@@ -29,7 +29,7 @@ fn value_change(
     ensures { λ r. ⌜ after (replyOf (r .answer)) (memory (r .state) (recordsOf (now (records .exit))) (now (times .entry)) (now (work .exit)) (now (image .entry)))
         ≡ changeOf (memory state (recordsOf (now (records .entry))) (now (times .entry)) (now (work .entry)) (now (image .entry))) (signal .0) (givenOf value (now (bytes .entry))) ⌝ }
 {
-    let lent = Lent {
+    let lent = Lengths {
         records: records.len(),
         times: times.len(),
         image: image.len(),

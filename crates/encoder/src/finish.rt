@@ -4,7 +4,7 @@ use crate::refused;
 use cut::cut;
 use recording::Answer;
 use recording::Encoder;
-use refusals::Lent;
+use refusals::Lengths;
 use refusals::state_refusal;
 ghost use mathlib.Core.Path.{_≡_};
 ghost use Rattle.recording.specs.Calls.{replyOf};
@@ -24,7 +24,7 @@ fn closed(state: Encoder) -> Outcome
     }
 }
 
-// Cuts if any time is held, and closes; the image is its first so many bytes.
+// Cuts if any time is held, and closes. The answer is the total: the image is the first so many bytes of the image buffer.
 pub fn finish(
     state: Encoder,
     records: &mut [u64],
@@ -35,7 +35,7 @@ pub fn finish(
     ensures { λ r. ⌜ after (replyOf (r .answer)) (memory (r .state) (recordsOf (now (records .exit))) (now (times .exit)) (now (work .entry)) (now (image .exit)))
         ≡ finishOf (memory state (recordsOf (now (records .entry))) (now (times .entry)) (now (work .entry)) (now (image .entry))) ⌝ }
 {
-    let lent = Lent {
+    let lent = Lengths {
         records: records.len(),
         times: times.len(),
         image: image.len(),

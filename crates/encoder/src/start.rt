@@ -3,7 +3,7 @@ use crate::Outcome;
 use head::put_head;
 use recording::Answer;
 use recording::Encoder;
-use refusals::Lent;
+use refusals::Lengths;
 use refusals::start_refusal;
 use storage::has_unknown_kind;
 use storage::reset_records;
@@ -49,7 +49,7 @@ pub fn start(
         ≡ startOf limit signals (memory state (recordsOf (now (records .entry))) (now (times .entry)) [] (now (image .entry))) ⌝ }
 {
     let unknown = has_unknown_kind(&*records);
-    let lent = Lent {
+    let lent = Lengths {
         records: records.len(),
         times: times.len(),
         image: image.len(),

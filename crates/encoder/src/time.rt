@@ -4,7 +4,7 @@ use crate::refused;
 use cut::cut;
 use recording::Answer;
 use recording::Encoder;
-use refusals::Lent;
+use refusals::Lengths;
 use refusals::state_refusal;
 ghost use mathlib.Core.Path.{_≡_};
 ghost use mathlib.Core.Bool.{true, false};
@@ -13,7 +13,7 @@ ghost use lib.ListN.{length, take, set};
 ghost use Rattle.recording.specs.Calls.{replyOf, above, wayOf};
 ghost use Rattle.recording.specs.Memory.{memory, after, first};
 ghost use Rattle.recording.specs.Step.{skipping, timeBy, timeOf};
-ghost use Rattle.recording.specs.TurnedBack.{stateTests};
+ghost use Rattle.recording.specs.Refusals.{stateTests};
 ghost use Rattle.storage.specs.Storage.{recordsOf};
 ghost use Rattle.encoder.specs.Way.{wayIn};
 ghost use Rattle.encoder.specs.Taken.{takenState};
@@ -104,7 +104,7 @@ pub fn time_change(
     ensures { λ r. ⌜ after (replyOf (r .answer)) (memory (r .state) (recordsOf (now (records .exit))) (now (times .exit)) (now (work .entry)) (now (image .exit)))
         ≡ timeOf (memory state (recordsOf (now (records .entry))) (now (times .entry)) (now (work .entry)) (now (image .entry))) time ⌝ }
 {
-    let lent = Lent {
+    let lent = Lengths {
         records: records.len(),
         times: times.len(),
         image: image.len(),

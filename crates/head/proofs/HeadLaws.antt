@@ -15,10 +15,10 @@ use Rattle.recording.specs.declared.SignalRecord.{SignalRecord}
 use Rattle.recording.specs.Step.{kindIn}
 use Rattle.storage.specs.Storage.{recordFrom, recordsOf}
 use Rattle.storage.proofs.StorageLaws.{records-length}
-use Rattle.head.specs.Kinds.{kindsOf}
+use Rattle.head.specs.Kinds.{kindBytes}
 
-pub kinds-none : (l : List ℕ) (i : ℕ) → length l ≤ i → kindsOf (drop i l) ≡ []
-unfolding kindsOf les
+pub kinds-none : (l : List ℕ) (i : ℕ) → length l ≤ i → kindBytes (drop i l) ≡ []
+unfolding kindBytes les
 kinds-none [] zero h = refl
 kinds-none [] (suc i) h = refl
 kinds-none (n ∷ l) zero h = absurd (omega arith)
@@ -26,15 +26,15 @@ kinds-none (n ∷ l) (suc i) h = kinds-none l i (omega arith)
 
 -- r is the record at i, k its kind's number
 pub kinds-next : (l : List ℕ) (i k : ℕ) (r : SignalRecord) → i < length l → r ≡ recordFrom (getD l i 0) → k ≡ kindNumber (r .kind)
-    → kindsOf (drop i l) ≡ le 4 k ++ kindsOf (drop (suc i) l)
-unfolding kindsOf les
+    → kindBytes (drop i l) ≡ le 4 k ++ kindBytes (drop (suc i) l)
+unfolding kindBytes les
 kinds-next l i k r h e f = rw (drop-cons l i 0 h, f, e) refl
 
 -- a turn of the loop that writes the kinds: the kind at i is written at `at`, the rest after it
 pub kinds-turn : (l image : List ℕ) (i k at : ℕ) (r : SignalRecord) → i < length l → r ≡ recordFrom (getD l i 0) → k ≡ kindNumber (r .kind)
-    → sets (sets image at (le 4 k)) (at + 4) (kindsOf (drop (suc i) l)) ≡ sets image at (kindsOf (drop i l))
+    → sets (sets image at (le 4 k)) (at + 4) (kindBytes (drop (suc i) l)) ≡ sets image at (kindBytes (drop i l))
 kinds-turn l image i k at r h e f =
-    rw (kinds-next l i k r h e f, sets-append (le 4 k) (kindsOf (drop (suc i) l)) image at, length-le 4 k) refl
+    rw (kinds-next l i k r h e f, sets-append (le 4 k) (kindBytes (drop (suc i) l)) image at, length-le 4 k) refl
 
 length-kinds : (l : List SignalRecord) → length (map kindIn l) ≡ length l
 length-kinds [] = refl
@@ -42,8 +42,8 @@ length-kinds (r ∷ l) = ap suc (length-kinds l)
 
 -- the head at the start of a recording, written number by number
 pub head-written : (image l : List ℕ) (limit signals : ℕ) → length l ≡ signals
-    → sets (sets (sets (sets (sets image 0 (le 4 signals)) 4 (le 4 limit)) 8 (le 4 0)) 12 (le 4 (16 + 4 * signals))) 16 (kindsOf l)
+    → sets (sets (sets (sets (sets image 0 (le 4 signals)) 4 (le 4 limit)) 8 (le 4 0)) 12 (le 4 (16 + 4 * signals))) 16 (kindBytes l)
     ≡ sets image 0 (headBytes limit 0 (headSize signals) (map kindIn (recordsOf l)))
-unfolding headBytes kindsOf
+unfolding headBytes kindBytes
 head-written image l limit signals e =
     rw (length-kinds (recordsOf l), records-length l, e) (simp (sets-append, length-le))

@@ -8,5 +8,5 @@ use Rattle.recording.specs.Step.{kindIn}
 use Rattle.storage.specs.Storage.{recordsOf}
 
 -- the kinds of stored records, a number of four bytes each
-unfoldable pub kindsOf : List ℕ → List ℕ
-kindsOf l = les 4 (map kindNumber (map kindIn (recordsOf l)))
+unfoldable pub kindBytes : List ℕ → List ℕ
+kindBytes l = les 4 (map kindNumber (map kindIn (recordsOf l)))

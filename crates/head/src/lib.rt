@@ -10,12 +10,12 @@ ghost use lib.Seq.{sets};
 ghost use Rattle.image.specs.Head.{headSize, headBytes};
 ghost use Rattle.recording.specs.Step.{kindIn};
 ghost use Rattle.storage.specs.Storage.{recordsOf};
-ghost use Rattle.head.specs.Kinds.{kindsOf};
+ghost use Rattle.head.specs.Kinds.{kindBytes};
 
 // Writes the kind of each record, after the head's four numbers.
 fn put_kinds(image: &mut [u8], records: &[u64])
     requires { ⌜ 16 + 4 * length (now records) ≤ length (now image) ⌝ }
-    ensures { λ r. ⌜ now (image .exit) ≡ sets (now (image .entry)) 16 (kindsOf (now (records .entry))) ⌝ }
+    ensures { λ r. ⌜ now (image .exit) ≡ sets (now (image .entry)) 16 (kindBytes (now (records .entry))) ⌝ }
 {
     let mut at = 16;
     let mut i = 0;

@@ -24,7 +24,7 @@ use Rattle.recording.specs.Calls.{Call, time, change, finish, wayOf, cou
 use Rattle.recording.specs.Calls as calls
 use Rattle.recording.specs.Work.{itemsOf, gather}
 use Rattle.recording.specs.Memory.{Memory, memory, recordOf}
-use Rattle.recording.specs.TurnedBack.{unknownKind, startTests, stateTests}
+use Rattle.recording.specs.Refusals.{unknownKind, startTests, stateTests}
 use Rattle.recording.specs.Step.{encoder, withState, partsFrom, cutOf, timeOf, changeOf, finishOf, startOf, step, run}
 use Rattle.recording.specs.Runs.{lent, ran, imageLeft}
 
@@ -50,6 +50,11 @@ pub skip-stands : (ran 4 (BitVector 1 ∷ []) skips .replies
     × (ran 4 (BitVector 1 ∷ []) skips .last .state .skipped ≡ 2)
 unfolding groups lebOf le unle symbolOf classOfAll symbolsIn lastOr vcdBit decode changeBytes les headBytes wayOf unknownKind startTests stateTests timeOf changeOf startOf step run lent ran
 skip-stands = (refl, refl)
+
+-- a finish leaves the count
+pub count-after-finish : ran 4 (BitVector 1 ∷ []) (time 2 ∷ time 1 ∷ change 0 (vcd []) ∷ finish ∷ []) .last .state .skipped ≡ 1
+unfolding groups lebOf le unle symbolOf classOfAll symbolsIn lastOr vcdBit decode changeBytes les dataOf offsetsFrom blockBytes headBytes wayOf itemsOf gather unknownKind startTests stateTests partsFrom cutOf timeOf changeOf finishOf startOf step run lent ran imageLeft
+count-after-finish = refl
 
 -- the skipped count stays at its top
 pub count-stays : (counted 4294967294 ≡ 4294967295) × (counted 4294967295 ≡ 4294967295)

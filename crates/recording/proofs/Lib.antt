@@ -1,2 +1,3 @@
+pub mod CallsLaws
 pub mod Cases
 pub mod StartCases

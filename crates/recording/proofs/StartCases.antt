@@ -19,7 +19,7 @@ use Rattle.image.specs.Head.{headSize, headBytes, imageLimit}
 use Rattle.recording.specs.declared.SignalRecord.{SignalRecord}
 use Rattle.recording.specs.Calls.{started}
 use Rattle.recording.specs.Memory.{Memory, memory, After, after, recordOf, refused}
-use Rattle.recording.specs.TurnedBack.{outside, unknownKind, startTests}
+use Rattle.recording.specs.Refusals.{outside, unknownKind, startTests}
 use Rattle.recording.specs.Step.{encoder, fresh, kindIn, startOf}
 
 -- what is lawful in a start, by the numbers of its tests
@@ -36,7 +36,7 @@ pub record Startable (limit signals records : ℕ) (unknown : Bool) (times image
 abbrev pub StartableIn : (limit signals : ℕ) → Memory → Type 0
 StartableIn l s m = Startable l s (length (m .records)) (unknownKind (m .records)) (length (m .times)) (length (m .image))
 
--- what a start leaves that no test turns back
+-- what a start leaves that no test refuses
 abbrev pub begunIn : (limit signals : ℕ) → Memory → After
 begunIn l s m =
     after started

@@ -1,6 +1,6 @@
 pub mod Calls
 pub mod Work
 pub mod Memory
-pub mod TurnedBack
+pub mod Refusals
 pub mod Step
 pub mod Runs

@@ -48,10 +48,10 @@ abbrev pub first : Tests → ℕ
 first [] = 0
 first (t ∷ ts) = pick (t .0) (t .1) (first ts)
 
--- the first that holds turns the call back by its number
-abbrev pub turned : {A : Type 0} → Tests → (refused : ℕ → A) → A → A
-turned [] f e = e
-turned (t ∷ ts) f e = pick (t .0) (f (t .1)) (turned ts f e)
+-- the first that holds refuses the call by its number
+abbrev pub guarded : {A : Type 0} → Tests → (refused : ℕ → A) → A → A
+guarded [] f e = e
+guarded (t ∷ ts) f e = pick (t .0) (f (t .1)) (guarded ts f e)
 
 -- a refused call answers its number only, and all memory stays
 abbrev pub refused : Memory → ℕ → After

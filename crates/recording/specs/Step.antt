@@ -20,8 +20,8 @@ use Rattle.recording.specs.declared.Encoder.{Encoder}
 use Rattle.recording.specs.declared.SignalRecord.{SignalRecord}
 use Rattle.recording.specs.Calls.{Call, time, change, finish, taken, same, back, recorded, skipped, Reply, say, started, total, Way, above, equal, below, wayOf, counted}
 use Rattle.recording.specs.Work.{Item, item, itemBytes, itemsOf, gather}
-use Rattle.recording.specs.Memory.{Memory, memory, After, after, recordOf, recordAt, turned, refused}
-use Rattle.recording.specs.TurnedBack.{unknownKind, startTests, openTests, earlyTests, signalTests, roomTests}
+use Rattle.recording.specs.Memory.{Memory, memory, After, after, recordOf, recordAt, guarded, refused}
+use Rattle.recording.specs.Refusals.{unknownKind, startTests, openTests, earlyTests, signalTests, roomTests}
 
 abbrev pub encoder : (closed : Bool) (limit signals held work image blocks : ℕ) (skip : Bool) (skipped : ℕ) → Encoder
 encoder c l s h w i b k n = record { closed = c; limit = l; signals = s; held = h; work = w; image = i; blocks = b; skip = k; skipped = n }
@@ -94,14 +94,14 @@ timeBy m t equal = after (say same) m
 timeBy m t below = after (say back) (withState m (skipping (m .state)))
 
 unfoldable pub timeOf : Memory → ℕ → After
-timeOf m t = turned (openTests m) (refused m) (timeBy m t (wayOf (take (m .state .held) (m .times)) t))
+timeOf m t = guarded (openTests m) (refused m) (timeBy m t (wayOf (take (m .state .held) (m .times)) t))
 
 -- ---- change
 
 abbrev pub skippedOne : Encoder → Encoder
 skippedOne s = encoder (s .closed) (s .limit) (s .signals) (s .held) (s .work) (s .image) (s .blocks) (s .skip) (counted (s .skipped))
 
--- the signal's record has the last time's index and a top class that rises to c; the work buffer has the change's record
+-- the signal's record has the last time's index and a top class of at least c; the work buffer has the change's record
 abbrev pub recordedIn : Memory → (signal : ℕ) → (stream : List ℕ) → (c : ℕ) → Memory
 recordedIn m g b c =
     let s = m .state in
@@ -112,20 +112,20 @@ recordedIn m g b c =
     (sets (m .work) (s .work) (itemBytes (item g b)))
     (m .image)
 
--- d is the last time's index less the record's; a record's index beyond the last is turned back before d is used
+-- d is the last time's index less the record's; a record's index beyond the last is refused before d is used
 abbrev pub changeBy : Memory → (signal : ℕ) → Decoded → After
 changeBy m g (refuse n) = refused m n
 changeBy m g (accept a c) =
     let b = changeBytes (recordAt m g .kind) (m .state .held - 1 - recordAt m g .index) a in
-    turned (roomTests (m .state) (recordAt m g) (length (m .work)) (length b)) (refused m) (after (say recorded) (recordedIn m g b c))
+    guarded (roomTests (m .state) (recordAt m g) (length (m .work)) (length b)) (refused m) (after (say recorded) (recordedIn m g b c))
 
 -- 2, 10 (first group), 3, skip, 4, 5, 6, 10 (second group), 7
 unfoldable pub changeOf : Memory → (signal : ℕ) → Given → After
 changeOf m g v =
-    turned (openTests m) (refused m)
-    (turned (earlyTests (m .state)) (refused m)
+    guarded (openTests m) (refused m)
+    (guarded (earlyTests (m .state)) (refused m)
     (pick (m .state .skip) (after (say skipped) (withState m (skippedOne (m .state))))
-    (turned (signalTests (m .state) (recordAt m g) g) (refused m)
+    (guarded (signalTests (m .state) (recordAt m g) g) (refused m)
     (changeBy m g (decode (recordAt m g .kind) v)))))
 
 -- ---- finish
@@ -142,7 +142,7 @@ finishCut m (cuts b) = closing (cutIn m b)
 
 -- cuts if any time is held, and closes; it answers the total bytes
 unfoldable pub finishOf : Memory → After
-finishOf m = turned (openTests m) (refused m) (pick (eqb (m .state .held) 0) (closing m) (finishCut m (cutOf m)))
+finishOf m = guarded (openTests m) (refused m) (pick (eqb (m .state .held) 0) (closing m) (finishCut m (cutOf m)))
 
 -- ---- start
 
@@ -158,7 +158,7 @@ kindsOf = map kindIn
 -- a head with N = 0 and total 16 + 4S, each record's index and class 0
 unfoldable pub startOf : (limit signals : ℕ) → Memory → After
 startOf limit signals m =
-    turned (startTests limit signals (length (m .records)) (unknownKind (m .records)) (length (m .times)) (length (m .image))) (refused m)
+    guarded (startTests limit signals (length (m .records)) (unknownKind (m .records)) (length (m .times)) (length (m .image))) (refused m)
     (after started
     (memory (encoder false limit signals 0 0 (headSize signals) 0 false 0)
     (map fresh (m .records)) (m .times) (m .work)

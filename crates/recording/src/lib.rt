@@ -1,6 +1,6 @@
 // The state of a recording, its signals' records and its answers. Document 01, 'Recording', 'Turned back'.
 //
-// What each call does to them is defined in specs/Step.antt; the refusals stand in specs/TurnedBack.antt.
+// What each call does to them is defined in specs/Step.antt; the refusals by tests stand in specs/Refusals.antt.
 use signal::kind::SignalEncoding;
 use value::states::States;
 

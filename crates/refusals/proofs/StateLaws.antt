@@ -9,7 +9,7 @@ use lib.ListN.{drop}
 use Rattle.lists.proofs.ChoiceLaws.{none-holds}
 use Rattle.recording.specs.declared.Encoder.{Encoder}
 use Rattle.recording.specs.Memory.{first}
-use Rattle.recording.specs.TurnedBack.{stateTests}
+use Rattle.recording.specs.Refusals.{stateTests}
 use Rattle.refusals.proofs.TestsLaws.{positive, none-of}
 
 -- past the tests of B, the held times and the time buffer
@@ -18,7 +18,7 @@ pub limits-past : (s : Encoder) (records times work image : ℕ) → s .closed �
 unfolding stateTests
 limits-past s records times work image o a b h t = rw (o, le-ltb (s .limit) 2 a, le-ltb 65535 (s .limit) b, le-ltb (s .limit) (s .held) h, le-ltb times (s .limit) t) refl
 
--- what holds where no test of the state turns a call back
+-- what holds where no test of the state refuses a call
 pub record Sound (s : Encoder) (records times work image : ℕ) : Type 0 where
   pub going : s .closed ≡ false
   pub low : 2 ≤ s .limit

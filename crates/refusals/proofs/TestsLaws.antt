@@ -8,7 +8,7 @@ use native.Mathlib.Omega.{arith}
 use borrow.Author.Tests.{lt-ltb, le-ltb, le-leb, lt-leb, eq-eqb, ne-eqb}
 use lib.Dec.{ltb, T, ltb→lt}
 use Rattle.lists.specs.Choice.{pick}
-use Rattle.recording.specs.Memory.{Tests, first, turned}
+use Rattle.recording.specs.Memory.{Tests, first, guarded}
 
 pub ruleset tests = (lt-ltb, le-ltb, le-leb, lt-leb, eq-eqb, ne-eqb)
 
@@ -40,18 +40,18 @@ none-of (t ∷ ts) p e =
     (q .0, none-of ts (and-right (ltb 0 (t .1)) (positive ts) p) (q .1))
 
 -- no refusal
-pub turned-none : {A : Type 0} (ts : Tests) (f : ℕ → A) (e : A) → T (positive ts) → first ts ≡ 0 → turned ts f e ≡ e
-turned-none [] f e p z = refl
-turned-none (t ∷ ts) f e p z =
+pub guarded-none : {A : Type 0} (ts : Tests) (f : ℕ → A) (e : A) → T (positive ts) → first ts ≡ 0 → guarded ts f e ≡ e
+guarded-none [] f e p z = refl
+guarded-none (t ∷ ts) f e p z =
     let q = past (t .0) (t .1) (first ts) (and-left (ltb 0 (t .1)) (positive ts) p) z in
-    rw (q .0) (turned-none ts f e (and-right (ltb 0 (t .1)) (positive ts) p) (q .1))
+    rw (q .0) (guarded-none ts f e (and-right (ltb 0 (t .1)) (positive ts) p) (q .1))
 
 -- a refusal by its number
-pub turned-first : {A : Type 0} (ts : Tests) (f : ℕ → A) (e : A) → (first ts ≡ 0 → ⊥) → turned ts f e ≡ f (first ts)
-turned-first [] f e n = absurd (n refl)
-turned-first (t ∷ ts) f e n = by (t .0) n (turned-first ts f e)
+pub guarded-first : {A : Type 0} (ts : Tests) (f : ℕ → A) (e : A) → (first ts ≡ 0 → ⊥) → guarded ts f e ≡ f (first ts)
+guarded-first [] f e n = absurd (n refl)
+guarded-first (t ∷ ts) f e n = by (t .0) n (guarded-first ts f e)
   where
-    by : (b : Bool) → (pick b (t .1) (first ts) ≡ 0 → ⊥) → ((first ts ≡ 0 → ⊥) → turned ts f e ≡ f (first ts))
-        → pick b (f (t .1)) (turned ts f e) ≡ f (pick b (t .1) (first ts))
+    by : (b : Bool) → (pick b (t .1) (first ts) ≡ 0 → ⊥) → ((first ts ≡ 0 → ⊥) → guarded ts f e ≡ f (first ts))
+        → pick b (f (t .1)) (guarded ts f e) ≡ f (pick b (t .1) (first ts))
     by true m k = refl
     by false m k = k m

@@ -1,22 +1,22 @@
 // The refusals of the recorder that depend on numbers alone: the state and the lengths of the lent memory. Document 01, 'Turned back'.
 //
 // Each function answers the number of the first refusal that holds, 0 where none does; the contracts cite the tables of
-// recording/specs/TurnedBack.antt.
+// recording/specs/Refusals.antt.
 use recording::Encoder;
 ghost use mathlib.Core.Path.{_≡_};
 ghost use lib.ListN.{drop};
 ghost use Rattle.recording.specs.Memory.{first};
-ghost use Rattle.recording.specs.TurnedBack.{startTests, stateTests};
+ghost use Rattle.recording.specs.Refusals.{startTests, stateTests};
 
 // The lengths of the memory that is lent to a call, but for the work buffer's.
-pub struct Lent {
+pub struct Lengths {
     pub records: usize,
     pub times: usize,
     pub image: usize,
 }
 
 // 1: what is not lawful in a start. unknown tells of a record whose kind is unknown.
-pub fn start_refusal(limit: u32, signals: u32, unknown: bool, lent: Lent) -> u32
+pub fn start_refusal(limit: u32, signals: u32, unknown: bool, lent: Lengths) -> u32
     ensures { λ r. ⌜ r ≡ first (startTests limit signals (lent .records) unknown (lent .times) (lent .image)) ⌝ }
 {
     if limit < 2 {
@@ -41,7 +41,7 @@ pub fn start_refusal(limit: u32, signals: u32, unknown: bool, lent: Lent) -> u32
 }
 
 // The first group of 10, from the used bytes on.
-fn counts_refusal(state: Encoder, lent: Lent, work: usize) -> u32
+fn counts_refusal(state: Encoder, lent: Lengths, work: usize) -> u32
     ensures { λ r. ⌜ r ≡ first (drop 4 (stateTests state (lent .records) (lent .times) work (lent .image))) ⌝ }
 {
     if (work as u64) < state.work {
@@ -63,8 +63,8 @@ fn counts_refusal(state: Encoder, lent: Lent, work: usize) -> u32
     }
 }
 
-// 2, and the first group of 10: what no call of the recorder leaves.
-pub fn state_refusal(state: Encoder, lent: Lent, work: usize) -> u32
+// 2, and the first group of 10, which no call of the recorder leaves.
+pub fn state_refusal(state: Encoder, lent: Lengths, work: usize) -> u32
     ensures { λ r. ⌜ r ≡ first (stateTests state (lent .records) (lent .times) work (lent .image)) ⌝ }
 {
     if state.closed {

@@ -56,7 +56,7 @@ GivenFits (vcd v) = Unit {0}
 GivenFits (raw c v) = Unit {0}
 GivenFits (real b) = b < 2 ^ 64
 
--- a refusal's number; or a content, with the class that the top class rises to
+-- a refusal's number; or a content, with a class: the top class is at least that afterwards
 pub data Decoded : Type 0 where
   refuse : ℕ → Decoded
   accept : Content → (class : ℕ) → Decoded

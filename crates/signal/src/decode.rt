@@ -1,4 +1,4 @@
-// What a change call says to a signal of a kind: the refusals 4, 5 and 6, or a value and the class that the top class rises to.
+// What a change call says to a signal of a kind: the refusals 4, 5 and 6, or a value and the class that the top class is raised to at least.
 use crate::kind::SignalEncoding;
 use packed::raw::decode_raw_change;
 use value::change::BitVecChange;
@@ -19,7 +19,7 @@ pub enum ChangeValue {
     Real(u64),
 }
 
-// The value and the class that the top class rises to, or a refusal's number.
+// The value and the class that the top class is raised to at least, or a refusal's number.
 pub enum DecodedChange {
     Change(ChangeValue, States),
     Refused(u32),

@@ -20,7 +20,7 @@ use Rattle.image.specs.Head.{kindNumber}
 use Rattle.recording.specs.declared.SignalRecord.{SignalRecord}
 use Rattle.recording.specs.Memory.{recordOf}
 use Rattle.recording.specs.Step.{fresh, rewound}
-use Rattle.recording.specs.TurnedBack.{unknownKind}
+use Rattle.recording.specs.Refusals.{unknownKind}
 use Rattle.storage.specs.Storage.{kindFrom, recordFrom, numberFrom, recordsOf, Storable}
 
 -- ---- one record

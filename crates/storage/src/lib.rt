@@ -1,6 +1,7 @@
 // Signal records stored as numbers of 64 bits, in lent memory.
 //
-// The contracts cite specs/Storage.antt; that a record and its number are inverse is proved in proofs/StorageLaws.antt. What is decided
+// The contracts cite specs/Storage.antt; that every number is a record, and no two the same, is proved in
+// proofs/StorageLaws.antt. An index above 1,431,655,765 has no number; a recording's are below 65,535. What is decided
 // of one record stands in functions by value.
 use recording::SignalRecord;
 use recording::SignalRef;
@@ -13,7 +14,7 @@ ghost use Rattle.signal.specs.Kind.{knownKind};
 ghost use Rattle.image.specs.Head.{kindNumber};
 ghost use Rattle.recording.specs.Memory.{recordOf};
 ghost use Rattle.recording.specs.Step as step;
-ghost use Rattle.recording.specs.TurnedBack.{unknownKind};
+ghost use Rattle.recording.specs.Refusals.{unknownKind};
 ghost use Rattle.storage.specs.Storage.{kindFrom, recordFrom, numberFrom, recordsOf, Storable};
 
 // Widths are at most 65,536.

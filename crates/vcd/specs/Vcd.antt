@@ -13,7 +13,7 @@ use Rattle.value.specs.Class.{statesOf, classOfAll}
 use Rattle.value.specs.declared.states.MaybeStates.{MaybeStates}
 use Rattle.value.specs.declared.states.MaybeStates.the-variants.{Some, None}
 
--- the symbols of bytes; one byte without symbol spoils all
+-- the symbols of bytes; none where a byte has no symbol
 unfoldable pub symbolsIn : List ℕ → Option (List ℕ)
 symbolsIn [] = some []
 symbolsIn (b ∷ v) = bind (symbolOf b) (λ s. bind (symbolsIn v) (λ l. some (s ∷ l)))

@@ -114,7 +114,7 @@ fn little_endian_64(v: u64) {
     print(b"\n");
 }
 
-// The class that the top class rises to, or the refusal's number.
+// The class that the top class is raised to at least, or the refusal's number.
 fn print_decoded(r: DecodedChange) {
     match r {
         DecodedChange::Change(_, top) => {

@@ -4,7 +4,7 @@ use native.Mathlib.Omega.{arith}
 use lib.ListN.{length}
 use Rattle.signal.specs.Content.{decode}
 use Rattle.recording.specs.Memory.{first}
-use Rattle.recording.specs.TurnedBack.{stateTests}
+use Rattle.recording.specs.Refusals.{stateTests}
 use Rattle.refusals.proofs.StateLaws.{Sound, sound}
 use Rattle.change.specs.Found.{givenOf, foundRefused, foundBy, foundOf}
 use Rattle.change.proofs.FoundLaws.{found-state, found-early, found-skip, found-above, found-decoded, found-refused, answered}
@@ -12,7 +12,7 @@ use borrow.Author.Needs.{needs}
 use Rattle.change.proofs.change_found.Statement.{statement}
 use Rattle.change.proofs.change_found.Tie as tie
 
--- no test of the state turns the change back
+-- no test of the state refuses the change
 none : (c : tie.Else1) → let a = c .before .before .before .before .args in
     first (stateTests (a .state) (a .lent .records) (a .lent .times) (length (a .work .now)) (a .lent .image)) ≡ 0
 none c = sym (c .before .state-refusal .ensures) ∙ c .if1 .left

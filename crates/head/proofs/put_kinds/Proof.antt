@@ -8,13 +8,13 @@ use native.Mathlib.Omega.{arith}
 use borrow.Author.Needs.{needs}
 use lib.ListN.{length, drop}
 use lib.Seq.{sets, length-sets}
-use Rattle.head.specs.Kinds.{kindsOf}
+use Rattle.head.specs.Kinds.{kindBytes}
 use Rattle.head.proofs.HeadLaws.{kinds-none, kinds-turn}
 use Rattle.head.proofs.put_kinds.Statement.{statement}
 use Rattle.head.proofs.put_kinds.Tie as tie
 
 abbrev Inv-loop : tie.InvT-loop
-Inv-loop image₀ records at₀ i₀ image at i = (i ≤ length records) × (at ≡ 16 + 4 * i) × (length image ≡ length image₀) × (sets image at (kindsOf (drop i records)) ≡ sets image₀ 16 (kindsOf records))
+Inv-loop image₀ records at₀ i₀ image at i = (i ≤ length records) × (at ≡ 16 + 4 * i) × (length image ≡ length image₀) × (sets image at (kindBytes (drop i records)) ≡ sets image₀ 16 (kindBytes records))
 
 abbrev μ-loop : tie.MeasureT-loop
 μ-loop image₀ records at₀ i₀ image at i = length records - i

@@ -1,5 +1,5 @@
 use borrow.Author.Tests.{lt-ltb, le-ltb, le-leb, lt-leb, eq-eqb, ne-eqb}
-use Rattle.recording.specs.TurnedBack.{stateTests}
+use Rattle.recording.specs.Refusals.{stateTests}
 use Rattle.refusals.proofs.TestsLaws.{tests}
 use borrow.Author.Needs.{needs}
 use Rattle.refusals.proofs.counts_refusal.Statement.{statement}

@@ -7,7 +7,7 @@ use native.Mathlib.Numerals.{add-one}
 use native.Mathlib.Omega.{arith}
 use borrow.Author.Needs.{needs}
 use lib.ListN.{length, drop}
-use Rattle.recording.specs.TurnedBack.{unknownKind}
+use Rattle.recording.specs.Refusals.{unknownKind}
 use Rattle.storage.specs.Storage.{recordsOf}
 use Rattle.storage.proofs.StorageLaws.{unknown-none, unknown-next}
 use Rattle.storage.proofs.has_unknown_kind.Statement.{statement}

@@ -2,13 +2,13 @@
 use mathlib.Core.Path.{_≡_, sym, _∙_}
 use lib.ListN.{length}
 use Rattle.recording.specs.Memory.{first}
-use Rattle.recording.specs.TurnedBack.{stateTests}
+use Rattle.recording.specs.Refusals.{stateTests}
 use Rattle.encoder.proofs.FinishLaws.{finish-refused, finish-empty, finish-cut-refused, finish-cut}
 use borrow.Author.Needs.{needs}
 use Rattle.encoder.proofs.finish.finish.Statement.{statement}
 use Rattle.encoder.proofs.finish.finish.Tie as tie
 
--- no test of the state turns the finish back
+-- no test of the state refuses the finish
 none : (c : tie.Else1) → let a = c .before .before .before .before .before .before .args in
     first (stateTests (a .state) (length (a .records .now)) (length (a .times .now)) (length (a .work .now)) (length (a .image .now))) ≡ 0
 none c = sym (c .before .state-refusal .ensures) ∙ c .if1 .left

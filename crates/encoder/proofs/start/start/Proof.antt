@@ -7,7 +7,7 @@ use borrow.Author.Needs.{needs}
 use Rattle.encoder.proofs.start.start.Statement.{statement}
 use Rattle.encoder.proofs.start.start.Tie as tie
 
--- no test turns the start back
+-- no test refuses the start
 fine : (c : tie.Else1) → let a = c .before .before .before .before .before .before .before .args in
     Startable (a .limit) (a .signals) (length (a .records .now)) (c .before .before .has-unknown-kind .result) (length (a .times .now)) (length (a .image .now))
 fine c = startable _ _ _ _ _ _ (sym (c .before .start-refusal .ensures) ∙ c .if1 .left)

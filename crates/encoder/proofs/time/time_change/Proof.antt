@@ -4,7 +4,7 @@ use native.Mathlib.Omega.{arith}
 use lib.ListN.{length}
 use Rattle.recording.specs.Calls.{above, equal, below}
 use Rattle.recording.specs.Memory.{first}
-use Rattle.recording.specs.TurnedBack.{stateTests}
+use Rattle.recording.specs.Refusals.{stateTests}
 use Rattle.refusals.proofs.StateLaws.{sound}
 use Rattle.encoder.specs.Way.{wayIn}
 use Rattle.encoder.proofs.TimeLaws.{time-refused, time-by}
@@ -12,7 +12,7 @@ use borrow.Author.Needs.{needs}
 use Rattle.encoder.proofs.time.time_change.Statement.{statement}
 use Rattle.encoder.proofs.time.time_change.Tie as tie
 
--- no test of the state turns the time back
+-- no test of the state refuses the time
 none : (c : tie.Else1) → let a = c .before .before .before .before .before .before .args in
     first (stateTests (a .state) (length (a .records .now)) (length (a .times .now)) (length (a .work .now)) (length (a .image .now))) ≡ 0
 none c = sym (c .before .state-refusal .ensures) ∙ c .if1 .left

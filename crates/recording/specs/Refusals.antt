@@ -1,4 +1,5 @@
--- Document 01, 'Turned back': the refusals of start, time, change and finish, in the paper's order.
+-- Document 01, 'Turned back': the refusals of start, time, change and finish that tests on numbers and one record decide, in the paper's
+-- order. 5 and 6 stand in signal/specs/Content.antt (decode), 8 and the cut's 10 in Step.antt (cutItems).
 -- Assumes nothing.
 use Prim.Native.Nat.{ℕ, _+_, _-_, _*_}
 use mathlib.Core.Bool.{Bool, true, false, _&&_, _||_, not}
@@ -19,7 +20,7 @@ unfoldable pub unknownKind : List SignalRecord → Bool
 unknownKind [] = false
 unknownKind (r ∷ rs) = not (knownKind (r .kind)) || unknownKind rs
 
--- whoever starts: 1, by the count of records, whether a kind among them is unknown, and the lengths of the lent memory
+-- 1, of a start, by the count of records, whether a kind among them is unknown, and the lengths of the lent memory
 unfoldable pub startTests : (limit signals records : ℕ) → (unknown : Bool) → (times image : ℕ) → Tests
 startTests limit signals records unknown times image =
     (outside limit, 1)
