@@ -1,14 +1,6 @@
 // Answers: `bad`, or the top class, the stream bytes, and what reading them back shows.
 use crate::question::Question;
-use crate::question::big_endian;
-use crate::question::hex_bytes;
 use crate::question::parse;
-use crate::text::after;
-use crate::text::before;
-use crate::text::byte_at;
-use crate::text::print;
-use crate::text::print_bytes;
-use crate::text::wide;
 use libc::STDOUT_FILENO;
 use packed::bytes_required;
 use packed::unpack;
@@ -24,6 +16,14 @@ use stream::write::change_len;
 use stream::write::put_raw_change;
 use stream::write::put_real_change;
 use stream::write::put_vcd_change;
+use text::before;
+use text::byte_at;
+use text::number::big_endian;
+use text::number::hex_bytes;
+use text::print;
+use text::print_bytes;
+use text::wide;
+use text::word;
 use value::states::States;
 
 // The top class and how many stream bytes were written.
@@ -149,7 +149,7 @@ fn print_read(stream: &[u8], kind: SignalEncoding, d: u32) {
 pub fn answer(line: &[u8]) {
     let q = parse(line);
     let mut value = [0u8; 256];
-    let size = hex_bytes(&mut value, after(line, q.hex));
+    let size = hex_bytes(&mut value, word(line, q.hex));
     let mut stream = [0u8; 256];
     match write(&mut stream, q, before(&value, size)) {
         Written::Bad => print(b"bad\n"),

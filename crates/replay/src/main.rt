@@ -1,18 +1,17 @@
 // Replays questions that the Rust answered: standard input has one to a line, as in oracle/README.md, and `stdout` the Rust's answers.
 mod answer;
 mod question;
-mod text;
 
 use answer::answer;
 use libc::STDIN_FILENO;
 use text::between;
-use text::line_end;
+use text::past;
 
 // Answers each line. The text ends in a line feed.
 fn replay(s: &[u8]) {
     let mut at = 0;
     while at < s.len() {
-        let end = line_end(s, at);
+        let end = past(s, at, b'\n');
         answer(between(s, at, end));
         at = end;
     }

@@ -13,34 +13,10 @@ use signal::decode::DecodedChange;
 use signal::decode::decode_raw;
 use signal::decode::decode_vcd;
 use signal::kind::SignalEncoding;
-ghost use mathlib.Core.Path.{_≡_};
-
-fn wide(x: u8) -> u64
-    ensures { λ r. ⌜ r ≡ x ⌝ }
-{
-    x as u64
-}
-
-fn print(text: &[u8]) {
-    io::write_all(STDOUT_FILENO, text);
-}
-
-// Each byte as two digits.
-fn print_bytes(s: &[u8]) {
-    let mut i = 0;
-    while i < s.len() {
-        io::print_hex(STDOUT_FILENO, wide(s[i]), 2);
-        i += 1;
-    }
-}
-
-// The bytes before a place.
-fn before(s: &[u8], end: usize) -> &[u8] {
-    if s.len() < end {
-        return s;
-    }
-    &s[0..end]
-}
+use text::before;
+use text::print;
+use text::print_bytes;
+use text::wide;
 
 // The number that stands in bytes, and how many it takes.
 fn read_leb128(s: &[u8]) {
@@ -114,7 +90,7 @@ fn little_endian_64(v: u64) {
     print(b"\n");
 }
 
-// The class that the top class is raised to at least, or the refusal's number.
+// The class that the top class rises to, or the refusal's number.
 fn print_decoded(r: DecodedChange) {
     match r {
         DecodedChange::Change(_, top) => {

@@ -4,8 +4,8 @@ use borrow.Author.Needs.{needs}
 use Prim.Native.Nat.{_-_}
 use mathlib.Core.Path.{_≡_}
 use lib.ListN.{length}
-use Rattle.replay.proofs.question.hex_bytes.Statement.{statement}
-use Rattle.replay.proofs.question.hex_bytes.Tie as tie
+use Rattle.text.proofs.number.hex_bytes.Statement.{statement}
+use Rattle.text.proofs.number.hex_bytes.Tie as tie
 
 abbrev Inv-loop : tie.InvT-loop
 Inv-loop out₀ hex n₀ out n = length out ≡ length out₀

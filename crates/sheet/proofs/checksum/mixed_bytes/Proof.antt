@@ -1,16 +1,16 @@
--- `print_bytes` is safe and ends: the measure is how many bytes are left.
+-- `mixed_bytes` is safe and ends: the measure is how many bytes are left.
 -- Assumes nothing.
 use borrow.Author.Needs.{needs}
 use Prim.Native.Nat.{_-_}
 use lib.ListN.{length}
-use Rattle.vectors.proofs.print_bytes.Statement.{statement}
-use Rattle.vectors.proofs.print_bytes.Tie as tie
+use Rattle.sheet.proofs.checksum.mixed_bytes.Statement.{statement}
+use Rattle.sheet.proofs.checksum.mixed_bytes.Tie as tie
 
 abbrev Inv-loop : tie.InvT-loop
-Inv-loop s i₀ i = Unit {0}
+Inv-loop sum s r₀ i₀ r i = Unit {0}
 
 abbrev μ-loop : tie.MeasureT-loop
-μ-loop s i₀ i = length s - i
+μ-loop sum s r₀ i₀ r i = length s - i
 
 loop-holds : tie.Need-loop-holds Inv-loop μ-loop
 loop-holds c = search needs
@@ -21,8 +21,8 @@ shared-slice-read-wide c = search needs
 wide-requires : tie.Need-wide-requires Inv-loop μ-loop
 wide-requires c κs = search needs
 
-print-hex-requires : tie.Need-print-hex-requires Inv-loop μ-loop
-print-hex-requires c κs = search needs
+mixed-requires : tie.Need-mixed-requires Inv-loop μ-loop
+mixed-requires c κs = search needs
 
 add-i : tie.Need-add-i Inv-loop μ-loop
 add-i c = search needs
@@ -36,8 +36,8 @@ loop-again c = search needs
 returns : tie.Need-returns Inv-loop μ-loop
 returns c = search needs
 
-pub print-bytes-spec : {M : Type 1} → statement M
-print-bytes-spec =
+pub mixed-bytes-spec : {M : Type 1} → statement M
+mixed-bytes-spec =
     tie.close
     (tie.spec
     Inv-loop
@@ -45,7 +45,7 @@ print-bytes-spec =
     loop-holds
     shared-slice-read-wide
     wide-requires
-    print-hex-requires
+    mixed-requires
     add-i
     loop-less
     loop-again

@@ -1,16 +1,16 @@
--- `line_end` goes on by a byte at least. The loop's invariant: it never goes back.
+-- `past` goes on by a byte at least, before the end. The loop's invariant: it never goes back.
 -- Assumes nothing.
 use borrow.Author.Needs.{needs}
 use Prim.Native.Nat.{_≤_, _-_}
 use lib.ListN.{length}
-use Rattle.replay.proofs.text.line_end.Statement.{statement}
-use Rattle.replay.proofs.text.line_end.Tie as tie
+use Rattle.text.proofs.past.Statement.{statement}
+use Rattle.text.proofs.past.Tie as tie
 
 abbrev Inv-loop : tie.InvT-loop
-Inv-loop s at i₀ i = at ≤ i
+Inv-loop s at stop i₀ i = at ≤ i
 
 abbrev μ-loop : tie.MeasureT-loop
-μ-loop s at i₀ i = length s - i
+μ-loop s at stop i₀ i = length s - i
 
 loop-holds : tie.Need-loop-holds Inv-loop μ-loop
 loop-holds c = search needs
@@ -33,8 +33,8 @@ loop-again c = search needs
 returns-2 : tie.Need-returns-2 Inv-loop μ-loop
 returns-2 c = search needs
 
-pub line-end-spec : {M : Type 1} → statement M
-line-end-spec =
+pub past-spec : {M : Type 1} → statement M
+past-spec =
     tie.close
     (tie.spec
     Inv-loop

@@ -1,4 +1,6 @@
-// Text in byte slices. Past the end stand zeros, and parts end where the slice does.
+// Text in byte slices, for the test programs. Past the end stand zeros, and parts end where the slice does.
+pub mod number;
+
 use libc::STDOUT_FILENO;
 ghost use Prim.Native.Nat.{_≤_, _<_};
 ghost use mathlib.Core.Path.{_≡_};
@@ -37,39 +39,42 @@ pub fn between(s: &[u8], start: usize, end: usize) -> &[u8] {
     after(before(s, end), start)
 }
 
-// The place after the line feed that ends a line, or the end.
-pub fn line_end(s: &[u8], at: usize) -> usize
-    requires { ⌜ at < length (now s) ⌝ }
-    ensures { λ r. ⌜ at < r ⌝ }
+// The place after the next byte that equals `stop`, or the end.
+pub fn past(s: &[u8], at: usize, stop: u8) -> usize
+    ensures { λ r. ⌜ (at < length (now (s .entry)) → at < r) ⌝ }
 {
     let mut i = at;
     while i < s.len() {
         let b = s[i];
         i += 1;
-        if b == b'\n' {
+        if b == stop {
             return i;
         }
     }
     i
 }
 
-// A hexadecimal digit's number; 16 for any other byte.
-pub fn digit(b: u8) -> u64
-    ensures { λ r. ⌜ r ≤ 16 ⌝ }
-{
-    if b < b'0' {
-        return 16;
+// Word k of a line, from 0, with the byte that ends it. Words are parted by one space.
+pub fn word(line: &[u8], k: usize) -> &[u8] {
+    let mut at = 0;
+    let mut i = 0;
+    while i < k {
+        at = past(line, at, b' ');
+        i += 1;
     }
-    if b <= b'9' {
-        return wide(b - b'0');
+    between(line, at, past(line, at, b' '))
+}
+
+// A word, without the byte that ends it, is this name.
+pub fn spells(word: &[u8], name: &[u8]) -> bool {
+    let mut i = 0;
+    while i < name.len() {
+        if byte_at(word, i) != name[i] {
+            return false;
+        }
+        i += 1;
     }
-    if b < b'a' {
-        return 16;
-    }
-    if b <= b'f' {
-        return wide(b - b'a') + 10;
-    }
-    16
+    byte_at(word, i) <= b' '
 }
 
 pub fn print(text: &[u8]) {

@@ -3,8 +3,8 @@
 use borrow.Author.Needs.{needs}
 use Prim.Native.Nat.{_-_}
 use lib.ListN.{length}
-use Rattle.replay.proofs.question.big_endian.Statement.{statement}
-use Rattle.replay.proofs.question.big_endian.Tie as tie
+use Rattle.text.proofs.number.big_endian.Statement.{statement}
+use Rattle.text.proofs.number.big_endian.Tie as tie
 
 abbrev Inv-loop : tie.InvT-loop
 Inv-loop s v₀ i₀ v i = Unit {0}

@@ -3,8 +3,8 @@
 use borrow.Author.Needs.{needs}
 use Prim.Native.Nat.{_-_}
 use lib.ListN.{length}
-use Rattle.replay.proofs.text.print_bytes.Statement.{statement}
-use Rattle.replay.proofs.text.print_bytes.Tie as tie
+use Rattle.text.proofs.print_bytes.Statement.{statement}
+use Rattle.text.proofs.print_bytes.Tie as tie
 
 abbrev Inv-loop : tie.InvT-loop
 Inv-loop s i₀ i = Unit {0}

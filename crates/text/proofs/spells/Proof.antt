@@ -1,0 +1,56 @@
+-- `spells` is safe and ends: the measure is how many bytes of the name are left.
+-- Assumes nothing.
+use borrow.Author.Needs.{needs}
+use Prim.Native.Nat.{_-_}
+use lib.ListN.{length}
+use Rattle.text.proofs.spells.Statement.{statement}
+use Rattle.text.proofs.spells.Tie as tie
+
+abbrev Inv-loop : tie.InvT-loop
+Inv-loop word name i₀ i = Unit {0}
+
+abbrev μ-loop : tie.MeasureT-loop
+μ-loop word name i₀ i = length name - i
+
+loop-holds : tie.Need-loop-holds Inv-loop μ-loop
+loop-holds c = search needs
+
+byte-at-requires : tie.Need-byte-at-requires Inv-loop μ-loop
+byte-at-requires c κs = search needs
+
+shared-slice-read-if1 : tie.Need-shared-slice-read-if1 Inv-loop μ-loop
+shared-slice-read-if1 c = search needs
+
+returns : tie.Need-returns Inv-loop μ-loop
+returns c = search needs
+
+add-i : tie.Need-add-i Inv-loop μ-loop
+add-i c = search needs
+
+loop-less : tie.Need-loop-less Inv-loop μ-loop
+loop-less c = search needs
+
+loop-again : tie.Need-loop-again Inv-loop μ-loop
+loop-again c = search needs
+
+byte-at-requires-2 : tie.Need-byte-at-requires-2 Inv-loop μ-loop
+byte-at-requires-2 c κs = search needs
+
+returns-2 : tie.Need-returns-2 Inv-loop μ-loop
+returns-2 c = search needs
+
+pub spells-spec : {M : Type 1} → statement M
+spells-spec =
+    tie.close
+    (tie.spec
+    Inv-loop
+    μ-loop
+    loop-holds
+    byte-at-requires
+    shared-slice-read-if1
+    returns
+    add-i
+    loop-less
+    loop-again
+    byte-at-requires-2
+    returns-2)
