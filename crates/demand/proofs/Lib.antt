@@ -1,1 +1,5 @@
 pub mod RunLoads
+pub mod LoadsLaws
+pub mod LeavesLaws
+pub mod Demand3
+pub mod PowerLoss

@@ -112,14 +112,12 @@ pub record Demand3 : Type 0 where
   pub accepted : (b : List ℕ) → Bytes b → openOf b ≡ true → Leaves b
   pub only : (b : List ℕ) → Leaves b → openOf b ≡ true
 
--- beyond the demand: what a recording without a finish leaves, as when a unit loses its power. The calls that are in the image: those before
--- the last one that cut a block; all of them once it is closed. `held` are those found so far, `done` all calls before these
+-- beyond the demand: what a recording without a finish leaves, as when a unit loses its power. The calls that are in the image are those
+-- before the last one that cut a block (none before any cut). `held` are those found so far, `done` all calls before the list
 unfoldable pub callsIn : Memory → (held done : List Call) → List Call → List Call
 callsIn m held done [] = held
 callsIn m held done (c ∷ cs) =
-    let n = step m c .memory in
-    let all = done ++ c ∷ [] in
-    callsIn n (pick (n .state .closed) all (pick (eqb (n .state .blocks) (m .state .blocks)) held done)) all cs
+    let n = step m c .memory in callsIn n (pick (eqb (n .state .blocks) (m .state .blocks)) held done) (done ++ c ∷ []) cs
 
 -- the used image bytes load as the history of these
 pub record PowerLoss : Type 0 where

@@ -1,1 +1,2 @@
-// Demand 3 of document 00, as one claim about lists of calls (specs/Demand3.antt), and computed cases of it (proofs/). No code.
+// Demand 3 of document 00, as one claim about lists of calls (specs/Demand3.antt), its proof (proofs/Demand3, proofs/PowerLoss), and computed
+// cases of it. No code.

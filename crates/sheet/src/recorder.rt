@@ -1,13 +1,13 @@
 // The recorder's entry points, each by its call.
 use crate::call::Call;
-use encoder::finish::finish;
-use encoder::start::start;
-use encoder::time::time_change;
 use change::notation::Value;
 use encoder::Outcome;
 use encoder::changes::raw_value_change;
 use encoder::changes::real_change;
 use encoder::changes::vcd_value_change;
+use encoder::finish::finish;
+use encoder::start::start;
+use encoder::time::time_change;
 use recording::Encoder;
 use recording::SignalRef;
 

@@ -1,0 +1,150 @@
+-- What an accepted finish leaves loads as the list's history; the answers and the skipped count are that history's.
+-- Assumes nothing.
+use Prim.Native.Nat.{ℕ, _≤_, _<_}
+use mathlib.Core.Path.{_≡_, refl, sym, ap, _∙_, subst}
+use mathlib.Core.Bool.{Bool, true, false, _||_}
+use mathlib.Core.List.{List, [], _∷_, map}
+use mathlib.Core.Option.{Option, some}
+use borrow.Author.Tests.{le-ltb, lt-leb}
+use lib.ListN.{length, getD}
+use lib.Seq.{sets}
+use lib.Dec.{ltb, leb, eqb}
+use Rattle.lists.specs.Choice.{pick, isSome}
+use Rattle.signal.specs.declared.kind.SignalEncoding.{SignalEncoding}
+use Rattle.signal.specs.declared.kind.SignalEncoding.the-variants.{BitVector, Real, Absent}
+use Rattle.signal.specs.Kind.{absent}
+use Rattle.image.specs.Image.{Image}
+use Rattle.codec.specs.Valid.{Rising}
+use Rattle.codec.specs.Parse.{parse}
+use Rattle.codec.proofs.Trip.{parse-of}
+use Rattle.recording.specs.Calls.{Call, finish, refusals, heard}
+use Rattle.recording.specs.Memory.{Memory, After, Tests, guarded, refused}
+use Rattle.recording.specs.Refusals.{openTests}
+use Rattle.recording.specs.Step.{Cut, noCut, cuts, cutOf, closing, finishCut, finishOf, startOf, step, kindsOf}
+use Rattle.history.specs.History.{History, noHistory, kept, listOf, topOf, keptOf, classOf}
+use Rattle.loaded.specs.Opener.{kindAt}
+use Rattle.loaded.specs.Loading.{tableFrom, Load, load, loads, signalClass}
+use Rattle.loaded.specs.EntryBytes.{entriesBytes}
+use Rattle.loaded.specs.Reader.{unknownSignal, loadIn, loadFrom, loadOf, loadAfter, loaded, indexIn, tableIn, tableBy, tableOf, tableAfter, counted}
+use Rattle.loaded.specs.Reader as reader
+use Rattle.model.specs.Model.{Chunk, noModel}
+use Rattle.model.proofs.HistoryLaws.{history-rising}
+use Rattle.model.proofs.LoadLaws.{load-image, table-image, class-kept}
+use Rattle.follow.proofs.ImageRep.{imageFor}
+use Rattle.follow.proofs.OpenLaws.{pick-false, or-false}
+use Rattle.follow.proofs.Start.{start-taken, known-kinds}
+use Rattle.follow.proofs.Whole.{NeverTen, Follows, run-follows, start-stands, Finished, finish-leaves}
+use Rattle.demand.specs.Demand3.{Recorded, ranFrom, leftBy, historyOf, keptBytes, LoadsAs}
+
+-- ---- the calls that read, where the outputs are long enough
+
+table-is : (x : Image) (ts out : List ℕ) → tableFrom [] (x .blocks) ≡ ts → length ts ≤ length out
+    → tableIn x out ≡ tableAfter (counted (length ts)) (sets out 0 ts)
+unfolding tableIn
+table-is x ts out e h =
+    ap (λ (t : List ℕ). pick (ltb (length out) (length t)) (tableAfter (reader.refuse 9) out) (tableAfter (counted (length t)) (sets out 0 t))) e
+    ∙ pick-false (ltb (length out) (length ts)) _ _ (le-ltb (length out) (length ts) h)
+
+load-is : (x : Image) (g : ℕ) (l : Load) (index bytes : List ℕ) → loads g (x .blocks) ≡ l → unknownSignal x g ≡ false
+    → length (l .entries) ≤ length index → length (entriesBytes (kindAt x g) (signalClass l) (l .entries)) ≤ length bytes
+    → loadIn x g index bytes
+    ≡ loadAfter (loaded (length (l .entries)) (signalClass l)) (sets index 0 (map indexIn (l .entries))) (sets bytes 0 (entriesBytes (kindAt x g) (signalClass l) (l .entries)))
+unfolding loadIn
+load-is x g l index bytes e u h k =
+    pick-false (unknownSignal x g) _ _ u
+    ∙ ap (λ (y : Load). pick (ltb (length index) (length (y .entries)) || ltb (length bytes) (length (entriesBytes (kindAt x g) (signalClass y) (y .entries))))
+    (loadAfter (reader.refuse 9) index bytes)
+    (loadAfter (loaded (length (y .entries)) (signalClass y)) (sets index 0 (map indexIn (y .entries))) (sets bytes 0 (entriesBytes (kindAt x g) (signalClass y) (y .entries))))) e
+    ∙ pick-false (ltb (length index) (length (l .entries)) || ltb (length bytes) (length (entriesBytes (kindAt x g) (signalClass l) (l .entries)))) _ _
+    (or-false _ _ (le-ltb (length index) (length (l .entries)) h) (le-ltb (length bytes) (length (entriesBytes (kindAt x g) (signalClass l) (l .entries))) k))
+
+not-absent : (k : SignalEncoding) → (k ≡ Absent → ⊥) → absent k ≡ false
+not-absent (BitVector w) h = refl
+not-absent Real h = refl
+not-absent Absent h = absurd (h refl)
+
+-- ---- the bytes of a valid image whose blocks join to a history
+
+module _ (limit : ℕ) (ks : List SignalEncoding) (h : History) (b : List ℕ) (f : Finished limit ks h b) where
+  parsed : parse b ≡ some (imageFor limit ks (f .model .blocks))
+  parsed = ap parse (sym (f .bytes-are)) ∙ parse-of (imageFor limit ks (f .model .blocks)) (f .valid)
+
+  table-loads : (out : List ℕ) → length (h .times) ≤ length out → tableOf b out ≡ tableAfter (counted (length (h .times))) (sets out 0 (h .times))
+  table-loads out l =
+      ap (λ (o : Option Image). tableBy o out) parsed
+      ∙ table-is (imageFor limit ks (f .model .blocks)) (h .times) out (table-image (length ks) (f .model .blocks) ∙ ap (λ (c : Chunk). c .times) (f .held)) l
+
+  signal-load : (g : ℕ) → g < length ks → loads g (imageFor limit ks (f .model .blocks) .blocks) ≡ load (h .times) (keptOf h g) (topOf g (h .changes))
+  signal-load g l =
+      load-image (length ks) g (f .model .blocks) l
+      ∙ ap (λ (c : Chunk). load (c .times) (kept (listOf g (c .changes))) (topOf g (c .changes))) (f .held)
+
+  class-is : (g : ℕ) → signalClass (load (h .times) (keptOf h g) (topOf g (h .changes))) ≡ classOf h g
+  class-is g = class-kept (listOf g (h .changes)) (topOf g (h .changes))
+
+  signal-loads : (g : ℕ) (index bytes : List ℕ) → g < length ks → (getD ks g Absent ≡ Absent → ⊥)
+      → length (keptOf h g) ≤ length index → length (keptBytes ks h g) ≤ length bytes
+      → loadOf b g index bytes
+      ≡ loadAfter (loaded (length (keptOf h g)) (classOf h g)) (sets index 0 (map indexIn (keptOf h g))) (sets bytes 0 (keptBytes ks h g))
+  signal-loads g index bytes l a i j =
+      let x : Image = imageFor limit ks (f .model .blocks) in
+      let c = class-is g in
+      let u : unknownSignal x g ≡ false = or-false (leb (length ks) g) (absent (getD ks g Absent)) (lt-leb (length ks) g l) (not-absent (getD ks g Absent) a) in
+      ap (λ (o : Option Image). loadFrom o g index bytes) parsed
+      ∙ load-is x g (load (h .times) (keptOf h g) (topOf g (h .changes))) index bytes (signal-load g l) u i
+      (subst (λ (n : ℕ). length (entriesBytes (getD ks g Absent) n (keptOf h g)) ≤ length bytes) (sym c) j)
+      ∙ ap (λ (n : ℕ). loadAfter (loaded (length (keptOf h g)) n) (sets index 0 (map indexIn (keptOf h g))) (sets bytes 0 (entriesBytes (getD ks g Absent) n (keptOf h g)))) c
+
+  pub finished-loads : Rising (h .times) → LoadsAs ks h b
+  finished-loads r = record { opens = ap (λ (o : Option Image). isSome o) parsed; rising = r; table = table-loads; signals = signal-loads }
+
+-- ---- a finish leaves the skipped count
+
+module _ (m : Memory) where
+  abbrev Keeps : After → Type 0
+  Keeps e = e .memory .state .skipped ≡ m .state .skipped
+
+  kept-picked : (b : Bool) (x y : After) → Keeps x → Keeps y → Keeps (pick b x y)
+  kept-picked true x y p q = p
+  kept-picked false x y p q = q
+
+  kept-guarded : (ts : Tests) (e : After) → Keeps e → Keeps (guarded ts (refused m) e)
+  kept-guarded [] e k = k
+  kept-guarded (t ∷ ts) e k = kept-picked (t .0) (refused m (t .1)) (guarded ts (refused m) e) refl (kept-guarded ts e k)
+
+  kept-cut : (c : Cut) → Keeps (finishCut m c)
+  kept-cut (noCut n) = refl
+  kept-cut (cuts b) = refl
+
+  finish-count : Keeps (finishOf m)
+  unfolding finishOf
+  finish-count =
+      kept-guarded (openTests m) (pick (eqb (m .state .held) 0) (closing m) (finishCut m (cutOf m)))
+      (kept-picked (eqb (m .state .held) 0) (closing m) (finishCut m (cutOf m)) refl (kept-cut (cutOf m)))
+
+-- ---- a recording
+
+module _ (limit signals : ℕ) (m : Memory) (calls : List Call) (size : ℕ) (r : Recorded limit signals m calls size) where
+  pub follows : Follows limit (kindsOf (m .records)) (ranFrom limit signals m calls) (historyOf limit signals m calls)
+  follows =
+      run-follows limit (kindsOf (m .records)) calls (startOf limit signals m .memory) noModel noHistory (r .fitting)
+      (start-stands limit signals m (start-taken limit signals m (r .start)))
+
+  pub recorded-loads : LoadsAs (kindsOf (m .records)) (historyOf limit signals m calls .last) (leftBy limit signals m calls size)
+  recorded-loads =
+      let e = follows in
+      let k = known-kinds (m .records) (start-taken limit signals m (r .start) .known) in
+      finished-loads limit (kindsOf (m .records)) (historyOf limit signals m calls .last) (leftBy limit signals m calls size)
+      (finish-leaves limit (kindsOf (m .records)) (ranFrom limit signals m calls .last) (e .model) (historyOf limit signals m calls .last) size k (e .stands) (r .end))
+      (history-rising (kindsOf (m .records)) calls noHistory (refusals (ranFrom limit signals m calls .replies)) tt)
+
+  pub recorded-answers : heard (ranFrom limit signals m calls .replies) ≡ historyOf limit signals m calls .answers
+  recorded-answers = follows .answers
+
+  pub recorded-count : step (ranFrom limit signals m calls .last) finish .memory .state .skipped ≡ historyOf limit signals m calls .last .count
+  unfolding step
+  recorded-count = let e = follows in finish-count (ranFrom limit signals m calls .last) ∙ e .stands .rep .count ∙ e .stands .same .count
+
+  -- nobody altered memory between the calls, so none is refused by 10
+  pub recorded-never-ten : NeverTen (ranFrom limit signals m calls .replies)
+  recorded-never-ten = follows .not-ten

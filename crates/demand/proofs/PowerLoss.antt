@@ -1,0 +1,120 @@
+-- A recording without a finish: after a start and any calls the used image bytes load as the history of the calls before the last cut.
+-- Assumes nothing.
+use Prim.Native.Nat.{ℕ, _+_}
+use mathlib.Core.Path.{_≡_, refl, sym, ap, _∙_}
+use mathlib.Core.Bool.{Bool, true, false}
+use mathlib.Core.List.{List, [], _∷_, _++_, append-assoc, append-nil}
+use mathlib.Core.Option.{none}
+use native.Mathlib.Omega.{arith}
+use borrow.Author.Tests.{eq-eqb, ne-eqb}
+use lib.ListN.{length, take, length-append}
+use lib.Dec.{eqb}
+use Rattle.lists.specs.Choice.{pick}
+use Rattle.signal.specs.declared.kind.SignalEncoding.{SignalEncoding}
+use Rattle.codec.specs.Valid.{KnownKinds, BlocksFit}
+use Rattle.codec.proofs.Growth.{full-fit}
+use Rattle.recording.specs.Calls.{Call, CallFits, Fitting, started, isRefusal, refusals}
+use Rattle.recording.specs.Memory.{Memory}
+use Rattle.recording.specs.Step.{startOf, step, run, kindsOf}
+use Rattle.history.specs.History.{History, noHistory, tell, tellAll}
+use Rattle.model.specs.Model.{Chunk, noChunk, joined, Model, noModel, modelStep, imageOf, told}
+use Rattle.model.proofs.JoinLaws.{joined-append}
+use Rattle.model.proofs.HistoryLaws.{Same, history-rising}
+use Rattle.model.proofs.ValidLaws as valid
+use Rattle.follow.proofs.Rep.{Rep}
+use Rattle.follow.proofs.Growth.{Grown, kept, ended, step-grown}
+use Rattle.follow.proofs.Start.{start-taken, known-kinds}
+use Rattle.follow.proofs.Whole.{Stands, step-stands, start-stands, Finished, image-valid}
+use Rattle.demand.specs.Demand3.{ranFrom, historyOf, LoadsAs, callsIn, PowerLoss}
+use Rattle.demand.proofs.LoadsLaws.{finished-loads}
+
+-- what is finished by a cut is all that was recorded
+cut-held : (p : Model) (h : History) → Same p h → joined noChunk (p .blocks ++ p .now ∷ []) ≡ told h
+unfolding joined
+cut-held p h s = joined-append noChunk (p .blocks) (p .now ∷ []) ∙ s .held
+
+module _ (limit : ℕ) (ks : List SignalEncoding) (m₀ : Memory) where
+  -- the history of a list of calls from the start on
+  abbrev since : List Call → History
+  since l = tellAll ks noHistory l (refusals (run m₀ l .replies)) .last
+
+  -- after the calls `done` the finished blocks are the history of `held`, and h is all that was recorded
+  record Held (m : Memory) (p : Model) (h : History) (held done : List Call) : Type 0 where
+    stands : Stands limit ks m p h
+    joins : joined noChunk (p .blocks) ≡ told (since held)
+    onward : (cs : List Call) → since (done ++ cs) ≡ tellAll ks h cs (refusals (run m cs .replies)) .last
+
+  all-done : (m : Memory) (p : Model) (h : History) (held done : List Call) → Held m p h held done → since done ≡ h
+  unfolding run tellAll
+  all-done m p h held done w = ap since (sym (append-nil done)) ∙ w .onward []
+
+  -- a call that cuts makes all calls before it the finished ones
+  joins-next : (n m : Memory) (p : Model) (bs : List Chunk) (h : History) (held done : List Call) → Held m p h held done → n .state .blocks ≡ length bs → Grown p bs
+      → joined noChunk bs ≡ told (since (pick (eqb (n .state .blocks) (m .state .blocks)) held done))
+  joins-next n m p bs h held done w b (kept e) =
+      let same : n .state .blocks ≡ m .state .blocks = b ∙ ap (λ (l : List Chunk). length l) e ∙ sym (w .stands .rep .image .count) in
+      ap (joined noChunk) e ∙ w .joins ∙ ap (λ (t : Bool). told (since (pick t held done))) (sym (eq-eqb (n .state .blocks) (m .state .blocks) same))
+  joins-next n m p bs h held done w b (ended e) =
+      let more : length bs ≡ length (p .blocks) + 1 = ap (λ (l : List Chunk). length l) e ∙ length-append (p .blocks) (p .now ∷ []) in
+      let other : n .state .blocks ≡ m .state .blocks → ⊥ = λ q. omega (arith, b, more, w .stands .rep .image .count) in
+      ap (joined noChunk) e ∙ cut-held p h (w .stands .same) ∙ ap told (sym (all-done m p h held done w))
+      ∙ ap (λ (t : Bool). told (since (pick t held done))) (sym (ne-eqb (n .state .blocks) (m .state .blocks) other))
+
+  held-next : (m : Memory) (p : Model) (h : History) (held done : List Call) (c : Call) → CallFits c → Held m p h held done
+      → Held (step m c .memory) (modelStep ks limit p c (isRefusal (step m c .reply))) (tell ks h c (isRefusal (step m c .reply)) .next)
+      (pick (eqb (step m c .memory .state .blocks) (m .state .blocks)) held done) (done ++ c ∷ [])
+  unfolding run tellAll
+  held-next m p h held done c f w =
+      let s = step-stands limit ks m p h c f (w .stands) in
+      record {
+        stands = s;
+        joins = joins-next (step m c .memory) m p _ h held done w (s .rep .image .count) (step-grown ks limit p c (isRefusal (step m c .reply)));
+        onward = λ cs. ap since (append-assoc done (c ∷ []) cs) ∙ w .onward (c ∷ cs);
+      }
+
+  record Ended (cs held : List Call) (m : Memory) : Type 0 where
+    model : Model
+    rep : Rep limit ks (run m cs .last) model
+    good : valid.Good limit ks model
+    joins : joined noChunk (model .blocks) ≡ told (since held)
+
+  run-held : (cs : List Call) (m : Memory) (p : Model) (h : History) (held done : List Call) → Fitting cs → Held m p h held done → Ended cs (callsIn m held done cs) m
+  unfolding run Fitting callsIn
+  run-held [] m p h held done f w = record { model = p; rep = w .stands .rep; good = w .stands .good; joins = w .joins }
+  run-held (c ∷ cs) m p h held done f w =
+      let e = run-held cs (step m c .memory) _ _ _ _ (f .1) (held-next m p h held done c (f .0) w) in
+      record { model = e .model; rep = e .rep; good = e .good; joins = e .joins }
+
+  -- finished blocks alone are those of a valid image, closed or not
+  good-fit : (p : Model) → valid.Good limit ks p → BlocksFit limit ks none [] (imageOf (length ks) [] (p .blocks))
+  good-fit p g = go (p .closed) refl
+    where
+      go : (b : Bool) → p .closed ≡ b → BlocksFit limit ks none [] (imageOf (length ks) [] (p .blocks))
+      go true e = g .shut e
+      go false e = full-fit limit ks none [] (imageOf (length ks) [] (p .blocks)) (g .well e .full)
+
+  used-finished : (cs held : List Call) → KnownKinds ks → Ended cs held m₀ → Finished limit ks (since held) (take (run m₀ cs .last .state .image) (run m₀ cs .last .image))
+  used-finished cs held n e = record {
+    model = e .model;
+    held = e .joins;
+    valid = image-valid limit ks (run m₀ cs .last) (e .model) n (good-fit (e .model) (e .good)) (e .rep);
+    bytes-are = sym (e .rep .image .is);
+  }
+
+module _ (limit signals : ℕ) (m : Memory) (calls : List Call) (fit : Fitting calls) (start : startOf limit signals m .reply ≡ started) where
+  begun : Held limit (kindsOf (m .records)) (startOf limit signals m .memory) (startOf limit signals m .memory) noModel noHistory [] []
+  unfolding run tellAll joined
+  begun = record { stands = start-stands limit signals m (start-taken limit signals m start); joins = refl; onward = λ cs. refl }
+
+  used-loads : LoadsAs (kindsOf (m .records)) (historyOf limit signals m (callsIn (startOf limit signals m .memory) [] [] calls) .last)
+      (take (ranFrom limit signals m calls .last .state .image) (ranFrom limit signals m calls .last .image))
+  used-loads =
+      let ks : List SignalEncoding = kindsOf (m .records) in
+      let s : Memory = startOf limit signals m .memory in
+      let held : List Call = callsIn s [] [] calls in
+      finished-loads limit ks (historyOf limit signals m held .last) (take (ranFrom limit signals m calls .last .state .image) (ranFrom limit signals m calls .last .image))
+      (used-finished limit ks s calls held (known-kinds (m .records) (start-taken limit signals m start .known)) (run-held limit ks s calls s noModel noHistory [] [] fit begun))
+      (history-rising ks held noHistory (refusals (ranFrom limit signals m held .replies)) tt)
+
+pub power-loss : PowerLoss
+power-loss = record { used = λ limit signals m calls lent fit start. used-loads limit signals m calls fit start }

@@ -1,0 +1,87 @@
+-- Images only grow: a call that the model takes adds blocks and takes none away.
+-- Assumes nothing.
+use Prim.Native.Nat.{ℕ, _+_, _≤_}
+use mathlib.Core.Path.{_≡_, refl, sym, _∙_}
+use mathlib.Core.Bool.{Bool, true, false}
+use mathlib.Core.List.{List, [], _∷_, _++_, append-assoc, append-nil}
+use native.Mathlib.Omega.{arith}
+use lib.ListN.{length, getD}
+use lib.Dec.{eqb}
+use Rattle.lists.specs.Choice.{pick}
+use Rattle.signal.specs.declared.kind.SignalEncoding.{SignalEncoding}
+use Rattle.signal.specs.declared.kind.SignalEncoding.the-variants.{Absent}
+use Rattle.signal.specs.Content.{Decoded, refuse, accept, decode}
+use Rattle.recording.specs.Calls.{Call, time, change, finish, Way, above, equal, below, wayOf}
+use Rattle.model.specs.Model.{Chunk, Model, cut, modelTime, modelChange, noTime, modelStep}
+use Rattle.model.proofs.Rebuild.{modelRun}
+use Rattle.follow.proofs.ImageRep.{sizeFor, size-snoc}
+
+size-grows : (ks : List SignalEncoding) (ext bs : List Chunk) → sizeFor ks bs ≤ sizeFor ks (bs ++ ext)
+size-grows ks [] bs = rw (append-nil bs) (omega arith)
+size-grows ks (o ∷ ext) bs =
+    let e : bs ++ o ∷ ext ≡ (bs ++ o ∷ []) ++ ext = sym (append-assoc bs (o ∷ []) ext) in
+    rw e (omega (arith, size-grows ks ext (bs ++ o ∷ []), size-snoc ks bs o))
+
+-- the finished blocks after a call: as before, or with the open one
+pub data Grown (p : Model) (bs : List Chunk) : Type 0 where
+  kept : bs ≡ p .blocks → Grown p bs
+  ended : bs ≡ p .blocks ++ p .now ∷ [] → Grown p bs
+
+grown-cut : (p : Model) (b : Bool) → Grown p (pick b (cut p) p .blocks)
+unfolding cut
+grown-cut p true = ended refl
+grown-cut p false = kept refl
+
+grown-last : (p : Model) (b : Bool) → Grown p (pick b p (cut p) .blocks)
+unfolding cut
+grown-last p true = kept refl
+grown-last p false = ended refl
+
+grown-time : (limit : ℕ) (p : Model) (t : ℕ) (way : Way) → Grown p (modelTime limit p t way .blocks)
+unfolding modelTime
+grown-time limit p t above = grown-cut p (eqb (length (p .now .times)) limit)
+grown-time limit p t equal = kept refl
+grown-time limit p t below = kept refl
+
+grown-change : (p : Model) (g : ℕ) (b : Bool) (d : Decoded) → Grown p (modelChange p g b d .blocks)
+unfolding modelChange
+grown-change p g true d = kept refl
+grown-change p g false (refuse n) = kept refl
+grown-change p g false (accept a c) = kept refl
+
+pub step-grown : (ks : List SignalEncoding) (limit : ℕ) (p : Model) (c : Call) (refused : Bool) → Grown p (modelStep ks limit p c refused .blocks)
+unfolding modelStep
+step-grown ks limit p c true = kept refl
+step-grown ks limit p (time t) false = grown-time limit p t (wayOf (p .now .times) t)
+step-grown ks limit p (change g v) false = grown-change p g (p .skip) (decode (getD ks g Absent) v)
+step-grown ks limit p finish false = grown-last p (noTime (p .now .times))
+
+record Longer (bs cs : List Chunk) : Type 0 where
+  ext : List Chunk
+  is : cs ≡ bs ++ ext
+
+no-longer : (bs : List Chunk) → Longer bs bs
+no-longer bs = record { ext = []; is = sym (append-nil bs) }
+
+longer-both : (xs bs cs : List Chunk) → Longer xs bs → Longer bs cs → Longer xs cs
+longer-both xs bs cs p q = record { ext = p .ext ++ q .ext; is = q .is ∙ rw (p .is) (append-assoc xs (p .ext) (q .ext)) }
+
+longer-step : (ks : List SignalEncoding) (limit : ℕ) (p : Model) (c : Call) → Longer (p .blocks) (modelStep ks limit p c false .blocks)
+longer-step ks limit p c = go (step-grown ks limit p c false)
+  where
+    go : Grown p (modelStep ks limit p c false .blocks) → Longer (p .blocks) (modelStep ks limit p c false .blocks)
+    go (kept e) = record { ext = []; is = e ∙ sym (append-nil (p .blocks)) }
+    go (ended e) = record { ext = p .now ∷ []; is = e }
+
+longer-run : (ks : List SignalEncoding) (limit : ℕ) (cs : List Call) (p : Model) → Longer (p .blocks) (modelRun limit ks p cs .blocks)
+unfolding modelRun
+longer-run ks limit [] p = no-longer (p .blocks)
+longer-run ks limit (c ∷ cs) p =
+    longer-both (p .blocks) (modelStep ks limit p c false .blocks) (modelRun limit ks (modelStep ks limit p c false) cs .blocks)
+    (longer-step ks limit p c) (longer-run ks limit cs (modelStep ks limit p c false))
+
+pub run-grows : (ks : List SignalEncoding) (limit : ℕ) (cs : List Call) (p : Model) → sizeFor ks (p .blocks) ≤ sizeFor ks (modelRun limit ks p cs .blocks)
+run-grows ks limit cs p = let g = longer-run ks limit cs p in rw (g .is) (size-grows ks (g .ext) (p .blocks))
+
+pub step-grows : (ks : List SignalEncoding) (limit : ℕ) (p : Model) (c : Call) → sizeFor ks (p .blocks) ≤ sizeFor ks (modelStep ks limit p c false .blocks)
+step-grows ks limit p c = let g = longer-step ks limit p c in rw (g .is) (size-grows ks (g .ext) (p .blocks))

@@ -1,0 +1,104 @@
+-- Every valid image is left by its rebuilt list of calls and a finish, given room.
+-- Assumes nothing.
+use Prim.Native.Nat.{ℕ, _+_, _-_, _*_, _≤_, _<_}
+use mathlib.Core.Path.{_≡_, refl, sym, ap, _∙_, subst}
+use mathlib.Core.Bool.{Bool, false}
+use mathlib.Core.List.{List, [], _∷_, _++_}
+use mathlib.Core.Option.{none}
+use native.Mathlib.Omega.{arith}
+use lib.ListN.{length, take}
+use lib.Seq.{length-sets}
+use Rattle.signal.specs.declared.kind.SignalEncoding.{SignalEncoding}
+use Rattle.stream.specs.Entries.{Entry}
+use Rattle.image.specs.Block.{Block}
+use Rattle.image.specs.Head.{headSize}
+use Rattle.image.specs.Image.{image, blocksBytes, imageBytes}
+use Rattle.codec.specs.Valid.{BlocksFit}
+use Rattle.recording.specs.Calls.{Call, finish, Fitting, total, isRefusal}
+use Rattle.recording.specs.Memory.{Memory, After}
+use Rattle.recording.specs.Step.{startOf, step, run, kindsOf}
+use Rattle.model.specs.Model.{Chunk, chunk, Model, noModel, cut, close, noTime, modelStep, imageOf}
+use Rattle.model.proofs.Rebuild.{modelRun, ProperRun, imageCalls, rebuild}
+use Rattle.lists.specs.Choice.{pick}
+use Rattle.follow.specs.Start.{Startable, begun}
+use Rattle.follow.proofs.ChangeLaws.{mostBytes}
+use Rattle.follow.proofs.ImageRep.{sizeFor}
+use Rattle.follow.proofs.Rep.{Rep}
+use Rattle.follow.proofs.Calls.{step-good}
+use Rattle.follow.proofs.Start.{start-is, start-rep}
+use Rattle.follow.proofs.Growth.{step-grows}
+use Rattle.follow.proofs.Accepts.{finish-accepted, run-accepts}
+
+-- a list that the model takes whole, after which a finish leaves the blocks ss
+record Rebuilds (limit : ℕ) (ks : List SignalEncoding) (cs : List Call) (ss : List (Block (List Entry))) : Type 0 where
+  proper : ProperRun limit ks noModel cs
+  up : modelRun limit ks noModel cs .closed ≡ false
+  blocks : imageOf (length ks) [] (modelStep ks limit (modelRun limit ks noModel cs) finish false .blocks) ≡ ss
+
+finish-live : (limit : ℕ) (ks : List SignalEncoding) (bs : List Chunk) (o : Chunk) (p : Model) → p .blocks ≡ bs → p .now ≡ o → 0 < length (o .times)
+    → modelStep ks limit p finish false .blocks ≡ bs ++ o ∷ []
+unfolding modelStep cut
+finish-live limit ks bs o p e f h = ap (λ (b : Bool). close (pick b p (cut p)) .blocks) (timed (p .now .times) (subst (λ (c : Chunk). 0 < length (c .times)) (sym f) h)) ∙ rw (e, f) refl
+  where
+    timed : (l : List ℕ) → 0 < length l → noTime l ≡ false
+    timed [] k = absurd (omega arith)
+    timed (x ∷ l) k = refl
+
+rebuilds : (limit : ℕ) (ks : List SignalEncoding) (ss : List (Block (List Entry))) → 0 < limit → BlocksFit limit ks none [] ss → Rebuilds limit ks (imageCalls ks ss) ss
+unfolding imageCalls
+rebuilds limit ks [] pos v = record { proper = tt; up = unfold modelRun in refl; blocks = unfold modelRun modelStep imageOf in refl }
+rebuilds limit ks (s ∷ ss) pos v =
+    let b = rebuild limit ks s ss pos v in
+    let e = b .takes .run in
+    record {
+      proper = b .takes .proper;
+      up = ap (λ (p : Model). p .closed) e;
+      blocks = ap (imageOf (length ks) []) (finish-live limit ks (b .blocks) (chunk (b .times) (b .marks)) _ (ap (λ (p : Model). p .blocks) e) (ap (λ (p : Model). p .now) e) (b .any)) ∙ b .image;
+    }
+
+-- what the memory after a finish that answers `size` holds
+pub record LeftBy (limit : ℕ) (ks : List SignalEncoding) (ss : List (Block (List Entry))) (m : Memory) : Type 0 where
+  pub size : ℕ
+  pub end : step m finish .reply ≡ total size
+  pub bytes : take size (step m finish .memory .image) ≡ imageBytes (image limit ks ss)
+
+module _ (limit : ℕ) (ks : List SignalEncoding) (cs : List Call) (ss : List (Block (List Entry))) (b : Rebuilds limit ks cs ss) where
+  finish-left : (m : Memory) → Rep limit ks m (modelRun limit ks noModel cs) → headSize (length ks) + length (blocksBytes ks ss) ≤ length (m .image) → LeftBy limit ks ss m
+  finish-left m r h =
+      let q : Model = modelRun limit ks noModel cs in
+      let n : sizeFor ks (modelStep ks limit q finish false .blocks) ≡ headSize (length ks) + length (blocksBytes ks ss) =
+      ap (λ (x : List (Block (List Entry))). headSize (length ks) + length (blocksBytes ks x)) (b .blocks) in
+      let f = finish-accepted limit ks m q r (b .up) (omega (arith, n, h)) in
+      let g = step-good limit ks m q finish tt r in
+      let c : isRefusal (step m finish .reply) ≡ false = ap isRefusal (f .1) in
+      let r' : Rep limit ks (step m finish .memory) (modelStep ks limit q finish false) = subst (λ (x : Bool). Rep limit ks (step m finish .memory) (modelStep ks limit q finish x)) c (g .rep) in
+      record {
+        size = f .0;
+        end = f .1;
+        bytes = ap (λ (x : ℕ). take x (step m finish .memory .image)) (g .sum (f .0) (f .1) .0) ∙ r' .image .is
+            ∙ ap (λ (x : List (Block (List Entry))). imageBytes (image limit ks x)) (b .blocks);
+      }
+
+  run-left : (m : Memory) → Fitting cs → Rep limit ks m noModel → m .state .work ≡ 0 → headSize (length ks) + length (blocksBytes ks ss) ≤ length (m .image)
+      → length cs * mostBytes ≤ length (m .work) → LeftBy limit ks ss (run m cs .last)
+  run-left m fit r z h f =
+      let q : Model = modelRun limit ks noModel cs in
+      let n : sizeFor ks (modelStep ks limit q finish false .blocks) ≡ headSize (length ks) + length (blocksBytes ks ss) =
+      ap (λ (x : List (Block (List Entry))). headSize (length ks) + length (blocksBytes ks x)) (b .blocks) in
+      let s = step-grows ks limit q finish in
+      let a = run-accepts limit ks cs m noModel fit r (b .proper) (omega (arith, n, s, h)) (omega (arith, z, f)) in
+      finish-left (run m cs .last) (a .0) (rw (a .1) h)
+
+-- from a start that is taken, with the work and image that the list wants
+pub left : (limit signals : ℕ) (m : Memory) (ss : List (Block (List Entry))) → Startable limit signals m → BlocksFit limit (kindsOf (m .records)) none [] ss
+    → Fitting (imageCalls (kindsOf (m .records)) ss)
+    → headSize (length (kindsOf (m .records))) + length (blocksBytes (kindsOf (m .records)) ss) ≤ length (m .image)
+    → length (imageCalls (kindsOf (m .records)) ss) * mostBytes ≤ length (m .work)
+    → LeftBy limit (kindsOf (m .records)) ss (run (startOf limit signals m .memory) (imageCalls (kindsOf (m .records)) ss) .last)
+left limit signals m ss s v fit h f =
+    let ks : List SignalEncoding = kindsOf (m .records) in
+    let e : startOf limit signals m .memory ≡ begun limit signals m = ap (λ (x : After). x .memory) (start-is limit signals m s) in
+    let l : length (startOf limit signals m .memory .image) ≡ length (m .image) = ap (λ (x : Memory). length (x .image)) e ∙ simp length-sets in
+    let w : length (startOf limit signals m .memory .work) ≡ length (m .work) = ap (λ (x : Memory). length (x .work)) e in
+    let b = rebuilds limit ks ss (omega (arith, s .low)) v in
+    run-left limit ks (imageCalls ks ss) ss b (startOf limit signals m .memory) fit (start-rep limit signals m s) (ap (λ (x : Memory). x .state .work) e) (rw l h) (rw w f)

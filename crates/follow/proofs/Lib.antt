@@ -1,0 +1,16 @@
+pub mod WorkLaws
+pub mod ChangeLaws
+pub mod TimesRep
+pub mod RecsRep
+pub mod WorkRep
+pub mod ImageRep
+pub mod Rep
+pub mod OpenLaws
+pub mod Calls
+pub mod Start
+pub mod Whole
+pub mod Growth
+pub mod Accepts
+pub mod RebuiltFits
+pub mod RebuiltCount
+pub mod Left

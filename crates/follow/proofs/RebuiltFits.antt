@@ -1,0 +1,167 @@
+-- The calls rebuilt from a valid image are such as a caller can make: times of 64 bits, signal numbers of 32, values in slices of bytes.
+-- Assumes nothing.
+use Prim.Native.Nat.{ℕ, zero, suc, _+_, _-_, _≤_, _<_, _^_}
+use mathlib.Core.Path.{_≡_, sym, ap, _∙_, subst}
+use mathlib.Core.Bool.{Bool, true, false}
+use mathlib.Core.List.{List, [], _∷_, _++_}
+use mathlib.Core.Option.{Option, some, none}
+use native.Mathlib.Nat.{add-zero, add-suc, suc-add, zero-add}
+use native.Mathlib.Omega.{arith}
+use borrow.Author.Tests.{leb-true}
+use lib.ListN.{length, getD}
+use lib.Dec.{eqb}
+use Rattle.lists.specs.Choice.{pick}
+use Rattle.lists.specs.Last.{lastOr}
+use Rattle.lists.proofs.BytesLaws.{no-bytes}
+use Rattle.packed.specs.Packed.{packed, packedLength}
+use Rattle.packed.proofs.PackedLaws.{length-packed, packed-bytes}
+use Rattle.signal.specs.declared.kind.SignalEncoding.{SignalEncoding}
+use Rattle.signal.specs.declared.kind.SignalEncoding.the-variants.{BitVector, Real, Absent}
+use Rattle.signal.specs.Kind.{knownKind, topLimit}
+use Rattle.signal.specs.Content.{Content, happened, symbols, bits, ContentFits}
+use Rattle.signal.proofs.SayLaws.{sayOf}
+use Rattle.stream.specs.Entries.{Entry}
+use Rattle.image.specs.Block.{Part, Block}
+use Rattle.codec.specs.Valid.{EachBelow, KnownKinds, EntriesFit, OptionFits, PartsFit, topsAfter, firstIndex, BlocksFit}
+use Rattle.codec.proofs.Growth.{parts-each, parts-count}
+use Rattle.recording.specs.Calls.{Call, time, ValueFits, Fitting}
+use Rattle.model.proofs.Rebuild.{bare, bares, front, behind, restOf, callsOf, roundCalls, blockCalls, firstCalls, laterCalls, restCalls, imageCalls}
+use Rattle.follow.proofs.ChangeLaws.{packed-few}
+
+fit-append : (a b : List Call) → Fitting a → Fitting b → Fitting (a ++ b)
+unfolding Fitting
+fit-append [] b p q = q
+fit-append (c ∷ a) b p q = (p .0, fit-append a b (p .1) q)
+
+-- ---- a value
+
+say-fits : (k : SignalEncoding) (t : ℕ) (a : Content) → knownKind k ≡ true → t ≤ topLimit k → ContentFits k a → ValueFits (sayOf k t a)
+unfolding sayOf
+say-fits (BitVector zero) t a k l f = (no-bytes, omega arith)
+say-fits (BitVector (suc w)) t happened k l f = absurd f
+say-fits (BitVector (suc w)) t (bits b) k l f = absurd f
+say-fits (BitVector (suc w)) t (symbols s) k l f =
+    let m : suc w ≤ 65536 = leb-true (suc w) 65536 k in
+    let p : length (packed t s) ≡ packedLength (suc w) t = length-packed t s ∙ ap (λ (n : ℕ). packedLength n t) (f .0) in
+    let q : packedLength (suc w) t ≤ 32768 = packed-few (suc w) t m in
+    let r : length (packed t s) ≤ 32768 = rw p q in
+    (omega arith, (packed-bytes t s, omega (arith, r)))
+say-fits Real t happened k l f = absurd f
+say-fits Real t (symbols s) k l f = absurd f
+say-fits Real t (bits b) k l f = f
+say-fits Absent t a k l f = absurd f
+
+abbrev Values : (k : SignalEncoding) (t : ℕ) → List Entry → Type 0
+Values k t [] = Unit {0}
+Values k t (e ∷ es) = ValueFits (sayOf k t (e .content)) × Values k t es
+
+entries-values : (k : SignalEncoding) (n i t : ℕ) (es : List Entry) → knownKind k ≡ true → t ≤ topLimit k → EntriesFit k n i t es → Values k t es
+entries-values k n i t [] h l f = tt
+entries-values k n i t (e ∷ es) h l f = (say-fits k t (e .content) h l (f .0 .content), entries-values k n (e .index) t es h l (f .1))
+
+values-front : (i t : ℕ) (k : SignalEncoding) (es : List Entry) → Values k t es → Values k t (front i es)
+unfolding front
+values-front i t k [] v = tt
+values-front i t k (e ∷ es) v = go (eqb (e .index) i) (values-front i t k es (v .1))
+  where
+    go : (b : Bool) → Values k t (front i es) → Values k t (pick b (e ∷ front i es) [])
+    go true q = (v .0, q)
+    go false q = tt
+
+values-behind : (i t : ℕ) (k : SignalEncoding) (es : List Entry) → Values k t es → Values k t (behind i es)
+unfolding behind
+values-behind i t k [] v = tt
+values-behind i t k (e ∷ es) v = go (eqb (e .index) i) (values-behind i t k es (v .1))
+  where
+    go : (b : Bool) → Values k t (behind i es) → Values k t (pick b (behind i es) (e ∷ es))
+    go true q = q
+    go false q = v
+
+module _ (ks : List SignalEncoding) where
+  -- the values of the parts from signal g on
+  abbrev PartsSay : (g : ℕ) → List (Part (List Entry)) → Type 0
+  PartsSay g [] = Unit {0}
+  PartsSay g (p ∷ ps) = (g < 2 ^ 32) × Values (getD ks g Absent) (p .top) (p .stream) × PartsSay (suc g) ps
+
+  rest-say : (i g : ℕ) (ps : List (Part (List Entry))) → PartsSay g ps → PartsSay g (restOf i ps)
+  unfolding restOf
+  rest-say i g [] v = tt
+  rest-say i g (p ∷ ps) v = (v .0, values-behind i (p .top) (getD ks g Absent) (p .stream) (v .1), rest-say i (suc g) ps (v .2))
+
+  calls-fit : (g t : ℕ) (es : List Entry) → g < 2 ^ 32 → Values (getD ks g Absent) t es → Fitting (callsOf ks g t es)
+  unfolding Fitting callsOf
+  calls-fit g t [] h v = tt
+  calls-fit g t (e ∷ es) h v = ((h, v .0), calls-fit g t es h (v .1))
+
+  round-fit : (i g : ℕ) (ps : List (Part (List Entry))) → PartsSay g ps → Fitting (roundCalls ks i g ps)
+  unfolding Fitting roundCalls
+  round-fit i g [] v = tt
+  round-fit i g (p ∷ ps) v =
+      fit-append (callsOf ks g (p .top) (front i (p .stream))) (roundCalls ks i (suc g) ps)
+      (calls-fit g (p .top) (front i (p .stream)) (v .0) (values-front i (p .top) (getD ks g Absent) (p .stream) (v .1))) (round-fit i (suc g) ps (v .2))
+
+  block-fit : (ts : List ℕ) (i : ℕ) (ps : List (Part (List Entry))) → EachBelow (2 ^ 64) ts → PartsSay 0 ps → Fitting (blockCalls ks i ts ps)
+  unfolding Fitting blockCalls
+  block-fit [] i ps b v = round-fit i 0 ps v
+  block-fit (t ∷ ts) i ps b v =
+      fit-append (roundCalls ks i 0 ps) (time t ∷ blockCalls ks (suc i) ts (restOf i ps)) (round-fit i 0 ps v) (b .0, block-fit ts (suc i) (restOf i ps) (b .1) (rest-say i 0 ps v))
+
+  later-fit : (ts : List ℕ) (ps : List (Part (List Entry))) → EachBelow (2 ^ 64) ts → PartsSay 0 ps → Fitting (laterCalls ks ts ps)
+  unfolding Fitting laterCalls
+  later-fit [] ps b v = tt
+  later-fit (x ∷ []) ps b v = tt
+  later-fit (x ∷ t ∷ ts) ps b v = (b .1 .0, block-fit ts 1 ps (b .1 .1) v)
+
+  first-fit : (ts : List ℕ) (ps : List (Part (List Entry))) → EachBelow (2 ^ 64) ts → PartsSay 0 ps → Fitting (firstCalls ks ts ps)
+  unfolding Fitting firstCalls
+  first-fit [] ps b v = tt
+  first-fit (t ∷ ts) ps b v = (b .0, block-fit ts 0 ps (b .1) v)
+
+  -- ---- the parts of a valid block
+
+  option-values : (k : SignalEncoding) (n i before : ℕ) (p : Option (Part (List Entry))) → knownKind k ≡ true → OptionFits k n i before p → Values k (bare p .top) (bare p .stream)
+  option-values k n i before none h f = tt
+  option-values k n i before (some p) h f = entries-values k n i (p .top) (p .stream) h (f .most) (f .entries)
+
+  each-say : (ps : List (Option (Part (List Entry)))) (g : ℕ) → g + length ps ≤ 65536
+      → ((j : ℕ) → j < length ps → Values (getD ks (g + j) Absent) (bare (getD ps j none) .top) (bare (getD ps j none) .stream)) → PartsSay g (bares ps)
+  unfolding bares
+  each-say [] g h f = tt
+  each-say (p ∷ ps) g h f =
+      let f0 : Values (getD ks g Absent) (bare p .top) (bare p .stream) = subst (λ (n : ℕ). Values (getD ks n Absent) (bare p .top) (bare p .stream)) (add-zero g) (f 0 (omega arith)) in (
+        omega arith,
+        f0,
+        each-say ps (suc g) (omega arith)
+            (λ j l. subst (λ (n : ℕ). Values (getD ks n Absent) (bare (getD ps j none) .top) (bare (getD ps j none) .stream)) (add-suc g j ∙ sym (suc-add g j)) (f (suc j) (omega arith))),
+      )
+
+  module _ (few : length ks ≤ 65536) (known : (i : ℕ) → i < length ks → knownKind (getD ks i Absent) ≡ true) where
+    block-say : (n i : ℕ) (tops : List ℕ) (ps : List (Option (Part (List Entry)))) → PartsFit n i ks tops ps → PartsSay 0 (bares ps)
+    block-say n i tops ps f =
+        let c = parts-count n i ks tops ps f in
+        each-say ps 0 (omega arith)
+        (λ j l.
+        let l' : j < length ks = omega arith in
+        subst (λ (x : ℕ). Values (getD ks x Absent) (bare (getD ps j none) .top) (bare (getD ps j none) .stream)) (sym (zero-add j))
+        (option-values (getD ks j Absent) n i (getD tops j 0) (getD ps j none) (known j l') (parts-each n i ks tops ps f j l')))
+
+    rest-fit : (limit : ℕ) (end : Option ℕ) (tops : List ℕ) (ss : List (Block (List Entry))) → BlocksFit limit ks end tops ss → Fitting (restCalls ks ss)
+    unfolding Fitting restCalls
+    rest-fit limit end tops [] v = tt
+    rest-fit limit end tops (s ∷ ss) v =
+        fit-append (laterCalls ks (s .times) (bares (s .parts))) (restCalls ks ss)
+        (later-fit (s .times) (bares (s .parts)) (v .0 .small) (block-say (length (s .times)) (firstIndex end) tops (s .parts) (v .0 .parts)))
+        (rest-fit limit (some (lastOr 0 (s .times))) (topsAfter tops (s .parts)) ss (v .1))
+
+    pub image-fit : (limit : ℕ) (ss : List (Block (List Entry))) → BlocksFit limit ks none [] ss → Fitting (imageCalls ks ss)
+    unfolding Fitting imageCalls
+    image-fit limit [] v = tt
+    image-fit limit (s ∷ ss) v =
+        fit-append (firstCalls ks (s .times) (bares (s .parts))) (restCalls ks ss)
+        (first-fit (s .times) (bares (s .parts)) (v .0 .small) (block-say (length (s .times)) 0 [] (s .parts) (v .0 .parts)))
+        (rest-fit limit (some (lastOr 0 (s .times))) (topsAfter [] (s .parts)) ss (v .1))
+
+pub kinds-at : (ks : List SignalEncoding) → KnownKinds ks → (i : ℕ) → i < length ks → knownKind (getD ks i Absent) ≡ true
+kinds-at [] k i h = absurd (omega arith)
+kinds-at (x ∷ ks) k zero h = k .0
+kinds-at (x ∷ ks) k (suc i) h = kinds-at ks (k .1) i (omega arith)

@@ -1,0 +1,131 @@
+-- A whole list of calls from a start that is taken: it follows the model and so the history, and an accepted finish leaves the bytes of a
+-- valid image, whose blocks join to the history.
+-- Assumes nothing.
+use Prim.Native.Nat.{ℕ, _-_}
+use mathlib.Core.Path.{_≡_, refl, sym, ap, _∙_}
+use mathlib.Core.Bool.{Bool, true, false}
+use mathlib.Core.List.{List, [], _∷_}
+use mathlib.Core.Option.{none}
+use native.Mathlib.Omega.{arith}
+use lib.ListN.{take, getD}
+use Rattle.signal.specs.declared.kind.SignalEncoding.{SignalEncoding}
+use Rattle.signal.specs.declared.kind.SignalEncoding.the-variants.{Absent}
+use Rattle.signal.specs.Content.{Decoded, refuse, accept, decode}
+use Rattle.image.specs.Image.{imageBytes}
+use Rattle.codec.specs.Valid.{KnownKinds, BlocksFit, Valid}
+use Rattle.codec.proofs.ImageFits.{image-size}
+use Rattle.recording.specs.Calls.{Call, time, change, finish, CallFits, Fitting, Reply, total, isRefusal, heardOf, refusals, heard, Way, above, equal, below, wayOf}
+use Rattle.recording.specs.Calls as calls
+use Rattle.recording.specs.Memory.{Memory}
+use Rattle.recording.specs.Step.{startOf, step, run, Ran, kindsOf}
+use Rattle.history.specs.History.{History, noHistory, Telling, tellTime, tellChange, tell, tellAll}
+use Rattle.model.specs.Model.{Model, noModel, modelStep, noChunk, joined, told}
+use Rattle.model.proofs.HistoryLaws.{Same, way-same, step-same, start-same}
+use Rattle.model.proofs.ValidLaws as valid
+use Rattle.follow.specs.Answers.{wayAnswer, changeAnswer, modelAnswer}
+use Rattle.follow.specs.Start.{Startable}
+use Rattle.follow.proofs.ImageRep.{imageFor}
+use Rattle.follow.proofs.Rep.{Rep}
+use Rattle.follow.proofs.Calls.{Good, step-good}
+use Rattle.follow.proofs.Start.{start-rep}
+
+-- ---- the model's answers are the history's
+
+time-answer : (h : History) (t : ℕ) (w : Way) → wayAnswer w ≡ tellTime h t w .answer
+time-answer h t above = refl
+time-answer h t equal = refl
+time-answer h t below = refl
+
+change-answer : (h : History) (g : ℕ) (b : Bool) (d : Decoded) → changeAnswer b d ≡ tellChange h g b d .answer
+change-answer h g true d = refl
+change-answer h g false (refuse n) = refl
+change-answer h g false (accept a c) = refl
+
+answer-same : (ks : List SignalEncoding) (p : Model) (h : History) (c : Call) (b : Bool) → Same p h → modelAnswer ks p c b ≡ tell ks h c b .answer
+unfolding modelAnswer tell
+answer-same ks p h c true s = refl
+answer-same ks p h (time t) false s = ap wayAnswer (way-same p h t s) ∙ time-answer h t (wayOf (h .times) t)
+answer-same ks p h (change g v) false s =
+    let d : Decoded = decode (getD ks g Absent) v in
+    ap (λ (b : Bool). changeAnswer b d) (s .skip) ∙ change-answer h g (h .skip) d
+answer-same ks p h finish false s = refl
+
+-- ---- a run
+
+abbrev pub NeverTen : List Reply → Type 0
+NeverTen [] = Unit {0}
+NeverTen (r ∷ rs) = (r ≡ calls.refuse 10 → ⊥) × NeverTen rs
+
+-- memory stands for a model that goes with the history
+pub record Stands (limit : ℕ) (ks : List SignalEncoding) (m : Memory) (p : Model) (h : History) : Type 0 where
+  pub rep : Rep limit ks m p
+  pub same : Same p h
+  pub good : valid.Good limit ks p
+
+pub record Follows (limit : ℕ) (ks : List SignalEncoding) (r : Ran) (h : Telling) : Type 0 where
+  pub model : Model
+  pub stands : Stands limit ks (r .last) model (h .last)
+  pub answers : heard (r .replies) ≡ h .answers
+  pub not-ten : NeverTen (r .replies)
+
+pub step-stands : (limit : ℕ) (ks : List SignalEncoding) (m : Memory) (p : Model) (h : History) (c : Call) → CallFits c → Stands limit ks m p h
+    → Stands limit ks (step m c .memory) (modelStep ks limit p c (isRefusal (step m c .reply))) (tell ks h c (isRefusal (step m c .reply)) .next)
+step-stands limit ks m p h c fit s =
+    let g = step-good limit ks m p c fit (s .rep) in
+    let b : Bool = isRefusal (step m c .reply) in
+    record {
+      rep = g .rep;
+      same = step-same ks limit p h c b (omega (arith, s .rep .low)) (g .up) (g .fine) (s .same);
+      good = valid.step-good limit ks p c b (s .rep .low) fit (g .up) (g .fine) (s .same .first) (s .good);
+    }
+
+pub run-follows : (limit : ℕ) (ks : List SignalEncoding) (cs : List Call) (m : Memory) (p : Model) (h : History) → Fitting cs → Stands limit ks m p h
+    → Follows limit ks (run m cs) (tellAll ks h cs (refusals (run m cs .replies)))
+unfolding run tellAll Fitting
+run-follows limit ks [] m p h f s = record { model = p; stands = s; answers = refl; not-ten = tt }
+run-follows limit ks (c ∷ cs) m p h f s =
+    let g = step-good limit ks m p c (f .0) (s .rep) in
+    let b : Bool = isRefusal (step m c .reply) in
+    let a : heardOf (step m c .reply) ≡ tell ks h c b .answer = g .told ∙ answer-same ks p h c b (s .same) in
+    let e = run-follows limit ks cs (step m c .memory) (modelStep ks limit p c b) (tell ks h c b .next) (f .1) (step-stands limit ks m p h c (f .0) s) in
+    record { model = e .model; stands = e .stands; answers = rw (a, e .answers) refl; not-ten = (g .not-ten, e .not-ten) }
+
+pub start-stands : (limit signals : ℕ) (m : Memory) → Startable limit signals m → Stands limit (kindsOf (m .records)) (startOf limit signals m .memory) noModel noHistory
+start-stands limit signals m s = record { rep = start-rep limit signals m s; same = start-same; good = valid.start-good limit (kindsOf (m .records)) }
+
+-- ---- a finish that is accepted
+
+pub record Finished (limit : ℕ) (ks : List SignalEncoding) (h : History) (bytes : List ℕ) : Type 0 where
+  pub model : Model
+  pub held : joined noChunk (model .blocks) ≡ told h
+  pub valid : Valid (imageFor limit ks (model .blocks))
+  pub bytes-are : imageBytes (imageFor limit ks (model .blocks)) ≡ bytes
+
+pub image-valid : (limit : ℕ) (ks : List SignalEncoding) (m : Memory) (p : Model) → KnownKinds ks → BlocksFit limit ks none [] (imageFor limit ks (p .blocks) .blocks) → Rep limit ks m p
+    → Valid (imageFor limit ks (p .blocks))
+image-valid limit ks m p k f r = record {
+  low = r .low;
+  high = r .high;
+  signals = r .few;
+  kinds = k;
+  total = omega (arith, image-size (imageFor limit ks (p .blocks)), r .image .long, r .image .room, r .small);
+  blocks = f;
+}
+
+pub finish-leaves : (limit : ℕ) (ks : List SignalEncoding) (m : Memory) (p : Model) (h : History) (size : ℕ) → KnownKinds ks → Stands limit ks m p h
+    → step m finish .reply ≡ total size → Finished limit ks h (take size (step m finish .memory .image))
+finish-leaves limit ks m p h size k s e =
+    let g = step-good limit ks m p finish tt (s .rep) in
+    let m' : Memory = step m finish .memory in
+    let t = step-stands limit ks m p h finish tt s in
+    let b : isRefusal (step m finish .reply) ≡ false = ap isRefusal e in
+    let q : Model = modelStep ks limit p finish (isRefusal (step m finish .reply)) in
+    let u = g .sum size e in
+    let shut : q .closed ≡ true = sym (t .rep .closed) ∙ u .1 in
+    let n : tell ks h finish (isRefusal (step m finish .reply)) .next ≡ h = ap (λ (x : Bool). tell ks h finish x .next) b ∙ (unfold tell in refl) in
+    record {
+      model = q;
+      held = t .same .shut shut ∙ ap told n;
+      valid = image-valid limit ks m' q k (t .good .shut shut) (t .rep);
+      bytes-are = sym (t .rep .image .is) ∙ ap (λ (x : ℕ). take x (m' .image)) (sym (u .0));
+    }

@@ -1,0 +1,4 @@
+pub mod Records
+pub mod Marked
+pub mod Answers
+pub mod Start

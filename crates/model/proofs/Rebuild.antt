@@ -1,0 +1,617 @@
+-- A list of calls for every valid image, time by time and signal by signal, and that the model takes it whole and has the image's blocks.
+-- Assumes nothing.
+use Prim.Native.Nat.{ℕ, zero, suc, _+_, _-_, _≤_, _<_, max}
+use mathlib.Core.Path.{_≡_, refl, sym, ap, ap₂, _∙_, subst}
+use mathlib.Core.Bool.{Bool, true, false}
+use mathlib.Core.List.{List, [], _∷_, _++_, append-assoc, append-nil}
+use mathlib.Core.Option.{Option, some, none}
+use native.Mathlib.Nat.{add-zero, zero-add, add-suc, suc-add}
+use native.Mathlib.Omega.{arith}
+use borrow.Author.Tests.{eq-eqb, ne-eqb, eqb-true, eqb-false, lt-ltb}
+use native.Mathlib.Decide.{decLt}
+use lib.ListN.{length, getD, drop, length-append, length-drop, List·getD-eq-default}
+use lib.Dec.{eqb}
+use Rattle.lists.specs.Choice.{pick}
+use Rattle.lists.specs.Last.{lastOr}
+use Rattle.signal.specs.declared.kind.SignalEncoding.{SignalEncoding}
+use Rattle.signal.specs.declared.kind.SignalEncoding.the-variants.{Absent}
+use Rattle.signal.specs.Kind.{topLimit}
+use Rattle.signal.specs.Content.{Content, accept, decode}
+use Rattle.signal.proofs.SayLaws.{sayOf, say-decodes}
+use Rattle.stream.specs.Entries.{Entry, entry}
+use Rattle.image.specs.Block.{Part, Block, part, block}
+use Rattle.codec.specs.Valid.{RisingFrom, Rising, EntriesFit, OptionFits, topAfter, topsAfter, Begins, firstIndex, Filled, BlockFits, BlocksFit}
+use Rattle.codec.proofs.Growth.{parts-each, parts-count, tops-at}
+use Rattle.recording.specs.Calls.{Call, time, change, finish, above, wayOf}
+use Rattle.history.specs.History.{Change, listOf, topOf}
+use Rattle.model.specs.Model.{Chunk, chunk, Model, model, noModel, cut, modelTime, modelChange, modelStep, tab, partWith, storedOf, imageOf}
+use Rattle.model.proofs.JoinLaws.{last-append}
+use Rattle.model.proofs.LoadLaws.{top-append}
+use Rattle.model.proofs.ValidLaws.{seenOf, seen-snoc, image-snoc}
+
+-- ---- the calls
+
+abbrev pub noPart : Part (List Entry)
+noPart = part 0 []
+
+abbrev pub bare : Option (Part (List Entry)) → Part (List Entry)
+bare none = noPart
+bare (some p) = p
+
+unfoldable pub bares : List (Option (Part (List Entry))) → List (Part (List Entry))
+bares [] = []
+bares (p ∷ ps) = bare p ∷ bares ps
+
+-- the entries at index i in front, and those behind
+unfoldable pub front : (i : ℕ) → List Entry → List Entry
+front i [] = []
+front i (e ∷ es) = pick (eqb (e .index) i) (e ∷ front i es) []
+
+unfoldable pub behind : (i : ℕ) → List Entry → List Entry
+behind i [] = []
+behind i (e ∷ es) = pick (eqb (e .index) i) (behind i es) (e ∷ es)
+
+unfoldable pub restOf : (i : ℕ) → List (Part (List Entry)) → List (Part (List Entry))
+restOf i [] = []
+restOf i (p ∷ ps) = part (p .top) (behind i (p .stream)) ∷ restOf i ps
+
+module _ (ks : List SignalEncoding) where
+  unfoldable pub callsOf : (g t : ℕ) → List Entry → List Call
+  callsOf g t [] = []
+  callsOf g t (e ∷ es) = change g (sayOf (getD ks g Absent) t (e .content)) ∷ callsOf g t es
+
+  unfoldable pub roundCalls : (i g : ℕ) → List (Part (List Entry)) → List Call
+  roundCalls i g [] = []
+  roundCalls i g (p ∷ ps) = callsOf g (p .top) (front i (p .stream)) ++ roundCalls i (suc g) ps
+
+  unfoldable pub blockCalls : (i : ℕ) → List ℕ → List (Part (List Entry)) → List Call
+  blockCalls i [] ps = roundCalls i 0 ps
+  blockCalls i (t ∷ ts) ps = roundCalls i 0 ps ++ time t ∷ blockCalls (suc i) ts (restOf i ps)
+
+  unfoldable pub firstCalls : List ℕ → List (Part (List Entry)) → List Call
+  firstCalls [] ps = []
+  firstCalls (t ∷ ts) ps = time t ∷ blockCalls 0 ts ps
+
+  -- the first time of a later block is the preceding end
+  unfoldable pub laterCalls : List ℕ → List (Part (List Entry)) → List Call
+  laterCalls [] ps = []
+  laterCalls (x ∷ []) ps = []
+  laterCalls (x ∷ t ∷ ts) ps = time t ∷ blockCalls 1 ts ps
+
+  unfoldable pub restCalls : List (Block (List Entry)) → List Call
+  restCalls [] = []
+  restCalls (s ∷ ss) = laterCalls (s .times) (bares (s .parts)) ++ restCalls ss
+
+  unfoldable pub imageCalls : List (Block (List Entry)) → List Call
+  imageCalls [] = []
+  imageCalls (s ∷ ss) = firstCalls (s .times) (bares (s .parts)) ++ restCalls ss
+
+-- ---- entries at an index, and the rest
+
+pub front-behind : (i : ℕ) (es : List Entry) → front i es ++ behind i es ≡ es
+unfolding front behind
+front-behind i [] = refl
+front-behind i (e ∷ es) = go (eqb (e .index) i) (front-behind i es)
+  where
+    go : (b : Bool) → front i es ++ behind i es ≡ es → pick b (e ∷ front i es) [] ++ pick b (behind i es) (e ∷ es) ≡ e ∷ es
+    go true q = ap (λ (l : List Entry). e ∷ l) q
+    go false q = refl
+
+module _ (k : SignalEncoding) (n top : ℕ) where
+  behind-fits : (i : ℕ) (es : List Entry) → EntriesFit k n i top es → EntriesFit k n (suc i) top (behind i es)
+  unfolding behind
+  behind-fits i [] o = tt
+  behind-fits i (e ∷ es) o = go (eqb (e .index) i) refl (behind-fits i es)
+    where
+      go : (b : Bool) → eqb (e .index) i ≡ b → (EntriesFit k n i top es → EntriesFit k n (suc i) top (behind i es)) → EntriesFit k n (suc i) top (pick b (behind i es) (e ∷ es))
+      go true q f = f (subst (λ (x : ℕ). EntriesFit k n x top es) (eqb-true (e .index) i q) (o .1))
+      go false q f =
+          let z = eqb-false (e .index) i q in
+          (record { later = later (o .0 .later) z; inside = o .0 .inside; content = o .0 .content; class = o .0 .class }, o .1)
+        where
+          later : i ≤ e .index → (e .index ≡ i → ⊥) → suc i ≤ e .index
+          later a b = omega arith
+
+  -- in the last round nothing is left behind
+  front-last : (i : ℕ) (es : List Entry) → n ≡ suc i → EntriesFit k n i top es → front i es ≡ es
+  unfolding front
+  front-last i [] m o = refl
+  front-last i (e ∷ es) m o =
+      let z : e .index ≡ i = omega (arith, o .0 .later, o .0 .inside) in
+      rw (eq-eqb (e .index) i z, front-last i es m (subst (λ (x : ℕ). EntriesFit k n x top es) z (o .1))) refl
+
+-- ---- changes that stand for entries
+
+unfoldable pub asChanges : (g t : ℕ) → List Entry → List Change
+asChanges g t [] = []
+asChanges g t (e ∷ es) = record { signal = g; place = e .index; content = e .content; class = t } ∷ asChanges g t es
+
+as-append : (g t : ℕ) (a b : List Entry) → asChanges g t (a ++ b) ≡ asChanges g t a ++ asChanges g t b
+unfolding asChanges
+as-append g t [] b = refl
+as-append g t (e ∷ a) b = rw (as-append g t a b) refl
+
+as-list : (g t : ℕ) (es : List Entry) → listOf g (asChanges g t es) ≡ es
+unfolding listOf asChanges
+as-list g t [] = refl
+as-list g t (e ∷ es) = rw (eq-eqb g g refl, as-list g t es) refl
+
+as-top : (g t : ℕ) (e : Entry) (es : List Entry) → topOf g (asChanges g t (e ∷ es)) ≡ t
+unfolding topOf asChanges
+as-top g t e [] = rw (eq-eqb g g refl) (omega arith)
+as-top g t e (x ∷ es) = rw (eq-eqb g g refl) (omega (arith, as-top g t x es))
+
+-- the changes of a signal
+unfoldable pub ofs : (g : ℕ) → List Change → List Change
+ofs g [] = []
+ofs g (c ∷ cs) = pick (eqb (c .signal) g) (c ∷ ofs g cs) (ofs g cs)
+
+pick-append : (t : Bool) (c : Change) (x y : List Change) → pick t (c ∷ x ++ y) (x ++ y) ≡ pick t (c ∷ x) x ++ y
+pick-append true c x y = refl
+pick-append false c x y = refl
+
+ofs-append : (g : ℕ) (a b : List Change) → ofs g (a ++ b) ≡ ofs g a ++ ofs g b
+unfolding ofs
+ofs-append g [] b = refl
+ofs-append g (c ∷ a) b = rw (ofs-append g a b) (pick-append (eqb (c .signal) g) c (ofs g a) (ofs g b))
+
+ofs-list : (g : ℕ) (cs : List Change) → listOf g cs ≡ listOf g (ofs g cs)
+unfolding listOf ofs
+ofs-list g [] = refl
+ofs-list g (c ∷ cs) = go (eqb (c .signal) g) refl (ofs-list g cs)
+  where
+    go : (b : Bool) → eqb (c .signal) g ≡ b → listOf g cs ≡ listOf g (ofs g cs)
+        → pick b (entry (c .place) (c .content) ∷ listOf g cs) (listOf g cs) ≡ listOf g (pick b (c ∷ ofs g cs) (ofs g cs))
+    go true e h = unfold listOf in rw (e, h) refl
+    go false e h = h
+
+ofs-top : (g : ℕ) (cs : List Change) → topOf g cs ≡ topOf g (ofs g cs)
+unfolding topOf ofs
+ofs-top g [] = refl
+ofs-top g (c ∷ cs) = go (eqb (c .signal) g) refl (ofs-top g cs)
+  where
+    go : (b : Bool) → eqb (c .signal) g ≡ b → topOf g cs ≡ topOf g (ofs g cs)
+        → max (pick b (c .class) 0) (topOf g cs) ≡ topOf g (pick b (c ∷ ofs g cs) (ofs g cs))
+    go true e h = unfold topOf in rw (e, h) refl
+    go false e h = omega (arith, h)
+
+ofs-as : (g t : ℕ) (es : List Entry) → ofs g (asChanges g t es) ≡ asChanges g t es
+unfolding ofs asChanges
+ofs-as g t [] = refl
+ofs-as g t (e ∷ es) = rw (eq-eqb g g refl, ofs-as g t es) refl
+
+ofs-other : (g i t : ℕ) (es : List Entry) → (g ≡ i → ⊥) → ofs i (asChanges g t es) ≡ []
+unfolding ofs asChanges
+ofs-other g i t [] h = refl
+ofs-other g i t (e ∷ es) h = rw (ne-eqb g i h, ofs-other g i t es h) refl
+
+-- ---- what a round and a block of calls record
+
+unfoldable pub roundMarks : (i g : ℕ) → List (Part (List Entry)) → List Change
+roundMarks i g [] = []
+roundMarks i g (p ∷ ps) = asChanges g (p .top) (front i (p .stream)) ++ roundMarks i (suc g) ps
+
+unfoldable pub blockMarks : (i : ℕ) → List ℕ → List (Part (List Entry)) → List Change
+blockMarks i [] ps = roundMarks i 0 ps
+blockMarks i (t ∷ ts) ps = roundMarks i 0 ps ++ blockMarks (suc i) ts (restOf i ps)
+
+round-below : (i k g : ℕ) (ps : List (Part (List Entry))) → g < k → ofs g (roundMarks i k ps) ≡ []
+unfolding roundMarks ofs
+round-below i k g [] h = refl
+round-below i k g (p ∷ ps) h =
+    let n : k ≡ g → ⊥ = λ e. omega arith in
+    ofs-append g (asChanges k (p .top) (front i (p .stream))) (roundMarks i (suc k) ps)
+    ∙ rw (ofs-other k g (p .top) (front i (p .stream)) n, round-below i (suc k) g ps (omega arith)) refl
+
+round-of : (i k j : ℕ) (ps : List (Part (List Entry)))
+    → ofs (k + j) (roundMarks i k ps) ≡ asChanges (k + j) (getD ps j noPart .top) (front i (getD ps j noPart .stream))
+unfolding roundMarks ofs asChanges front
+round-of i k j [] = refl
+round-of i k zero (p ∷ ps) =
+    ofs-append (k + 0) (asChanges k (p .top) (front i (p .stream))) (roundMarks i (suc k) ps)
+    ∙ rw (add-zero k, ofs-as k (p .top) (front i (p .stream)), round-below i (suc k) k ps (omega arith)) (append-nil (asChanges k (p .top) (front i (p .stream))))
+round-of i k (suc j) (p ∷ ps) =
+    let n : k ≡ k + suc j → ⊥ = λ e. omega arith in
+    let q : k + suc j ≡ suc k + j = omega arith in
+    ofs-append (k + suc j) (asChanges k (p .top) (front i (p .stream))) (roundMarks i (suc k) ps)
+    ∙ rw (ofs-other k (k + suc j) (p .top) (front i (p .stream)) n)
+    (subst (λ (x : ℕ). ofs x (roundMarks i (suc k) ps) ≡ asChanges x (getD ps j noPart .top) (front i (getD ps j noPart .stream))) (sym q) (round-of i (suc k) j ps))
+
+rest-at : (i j : ℕ) (ps : List (Part (List Entry))) → getD (restOf i ps) j noPart ≡ part (getD ps j noPart .top) (behind i (getD ps j noPart .stream))
+unfolding restOf behind
+rest-at i j [] = refl
+rest-at i zero (p ∷ ps) = refl
+rest-at i (suc j) (p ∷ ps) = rest-at i j ps
+
+-- one signal's changes of a block of calls are its entries
+block-of : (k : SignalEncoding) (n : ℕ) (ts : List ℕ) (i g : ℕ) (ps : List (Part (List Entry))) → n ≡ suc i + length ts
+    → EntriesFit k n i (getD ps g noPart .top) (getD ps g noPart .stream) → ofs g (blockMarks i ts ps) ≡ asChanges g (getD ps g noPart .top) (getD ps g noPart .stream)
+unfolding blockMarks
+block-of k n [] i g ps e o =
+    let r : ofs g (roundMarks i 0 ps) ≡ asChanges g (getD ps g noPart .top) (front i (getD ps g noPart .stream)) = rw zero-add at (round-of i 0 g ps) in
+    let l = front-last k n (getD ps g noPart .top) i (getD ps g noPart .stream) (e ∙ add-zero (suc i)) o in
+    r ∙ ap (asChanges g (getD ps g noPart .top)) l
+block-of k n (t ∷ ts) i g ps e o =
+    let es : List Entry = getD ps g noPart .stream in
+    let m : ℕ = getD ps g noPart .top in
+    let r : ofs g (roundMarks i 0 ps) ≡ asChanges g m (front i es) = rw zero-add at (round-of i 0 g ps) in
+    let q : n ≡ suc (suc i) + length ts = omega arith in
+    let o′ : EntriesFit k n (suc i) m (behind i es) = behind-fits k n m i es o in
+    let ih = block-of k n ts (suc i) g (restOf i ps) q (rw (rest-at i g ps) o′) in
+    let ih′ : ofs g (blockMarks (suc i) ts (restOf i ps)) ≡ asChanges g m (behind i es) = rw (rest-at i g ps) at ih in
+    ofs-append g (roundMarks i 0 ps) (blockMarks (suc i) ts (restOf i ps)) ∙ rw (r, ih′, ← (as-append g m (front i es) (behind i es)), front-behind i es) refl
+
+-- ---- the block that such changes make is the valid one
+
+part-back : (k : SignalEncoding) (n i : ℕ) (seen cs : List Change) (g : ℕ) (p : Option (Part (List Entry))) → OptionFits k n i (topOf g seen) p
+    → ofs g cs ≡ asChanges g (bare p .top) (bare p .stream) → partWith (topOf g (seen ++ cs)) (listOf g cs) ≡ p
+part-back k n i seen cs g none f o =
+    let l : listOf g cs ≡ [] = ofs-list g cs ∙ ap (listOf g) o ∙ as-list g 0 [] in
+    rw l refl
+part-back k n i seen cs g (some p) f o = go (p .stream) refl (f .any)
+  where
+    go : (es : List Entry) → p .stream ≡ es → 0 < length es → partWith (topOf g (seen ++ cs)) (listOf g cs) ≡ some p
+    go [] q any = absurd (omega arith)
+    go (x ∷ es) q any =
+        let l : listOf g cs ≡ x ∷ es = ofs-list g cs ∙ ap (listOf g) o ∙ as-list g (p .top) (p .stream) ∙ q in
+        let t : topOf g cs ≡ p .top = ofs-top g cs ∙ ap (topOf g) (o ∙ ap (asChanges g (p .top)) q) ∙ as-top g (p .top) x es in
+        let m : topOf g (seen ++ cs) ≡ p .top = omega (arith, top-append g seen cs, t, f .never-falls) in
+        ap₂ partWith m l ∙ ap (λ (s : List Entry). some (part (p .top) s)) (sym q)
+
+-- and the top class after it
+top-back : (k : SignalEncoding) (n i : ℕ) (seen cs : List Change) (g : ℕ) (p : Option (Part (List Entry))) → OptionFits k n i (topOf g seen) p
+    → ofs g cs ≡ asChanges g (bare p .top) (bare p .stream) → topAfter (topOf g seen) p ≡ topOf g (seen ++ cs)
+unfolding asChanges
+top-back k n i seen cs g none f o =
+    let t : topOf g cs ≡ topOf g [] = ofs-top g cs ∙ ap (topOf g) o in
+    let z : topOf g [] ≡ 0 = unfold topOf in refl in
+    omega (arith, top-append g seen cs, t, z)
+top-back k n i seen cs g (some p) f o = go (p .stream) refl (f .any)
+  where
+    go : (es : List Entry) → p .stream ≡ es → 0 < length es → p .top ≡ topOf g (seen ++ cs)
+    go [] q any = absurd (omega arith)
+    go (x ∷ es) q any =
+        let t : topOf g cs ≡ p .top = ofs-top g cs ∙ ap (topOf g) (o ∙ ap (asChanges g (p .top)) q) ∙ as-top g (p .top) x es in
+        omega (arith, top-append g seen cs, t, f .never-falls)
+
+bares-at : (g : ℕ) (ps : List (Option (Part (List Entry)))) → getD (bares ps) g noPart ≡ bare (getD ps g none)
+unfolding bares
+bares-at g [] = refl
+bares-at zero (p ∷ ps) = refl
+bares-at (suc g) (p ∷ ps) = bares-at g ps
+
+tab-ext : {A : Type 0} (i n : ℕ) (f h : ℕ → A) → ((k : ℕ) → k < i + n → f k ≡ h k) → tab i n f ≡ tab i n h
+unfolding tab
+tab-ext i zero f h e = refl
+tab-ext i (suc n) f h e = ap₂ _∷_ (e i (omega arith)) (tab-ext (suc i) n f h (λ k l. e k (omega arith)))
+
+tab-shift : {A : Type 0} (i n : ℕ) (f : ℕ → A) → tab (suc i) n f ≡ tab i n (λ (k : ℕ). f (suc k))
+unfolding tab
+tab-shift i zero f = refl
+tab-shift i (suc n) f = ap (λ l. f (suc i) ∷ l) (tab-shift (suc i) n f)
+
+tab-self : {A : Type 0} (ps : List A) (d : A) → tab 0 (length ps) (λ (g : ℕ). getD ps g d) ≡ ps
+unfolding tab
+tab-self [] d = refl
+tab-self (p ∷ ps) d = ap (λ l. p ∷ l) (tab-shift 0 (length ps) (λ (g : ℕ). getD (p ∷ ps) g d) ∙ tab-self ps d)
+
+-- ---- calls that the model takes
+
+module _ (limit : ℕ) (ks : List SignalEncoding) where
+  abbrev pub Proper : Model → Call → Type 0
+  Proper p (time t) = Unit {0}
+  Proper p (change g v) = (p .skip ≡ false) × (0 < length (p .now .times)) × ((a : Content) × (c : ℕ) × (decode (getD ks g Absent) v ≡ accept a c))
+  Proper p finish = Unit {0}
+
+  unfoldable pub modelRun : Model → List Call → Model
+  modelRun p [] = p
+  modelRun p (c ∷ cs) = modelRun (modelStep ks limit p c false) cs
+
+  abbrev pub ProperRun : Model → List Call → Type 0
+  ProperRun p [] = Unit {0}
+  ProperRun p (c ∷ cs) = (p .closed ≡ false) × Proper p c × ProperRun (modelStep ks limit p c false) cs
+
+  pub record Takes (p : Model) (cs : List Call) (q : Model) : Type 0 where
+    pub proper : ProperRun p cs
+    pub run : modelRun p cs ≡ q
+
+  takes-none : (p q : Model) → p ≡ q → Takes p [] q
+  unfolding modelRun
+  takes-none p q e = record { proper = tt; run = e }
+
+  takes-cons : (p p′ q : Model) (c : Call) (cs : List Call) → p .closed ≡ false → Proper p c → modelStep ks limit p c false ≡ p′ → Takes p′ cs q → Takes p (c ∷ cs) q
+  unfolding modelRun
+  takes-cons p p′ q c cs up ok e t = record {
+    proper = (up, ok, subst (λ (x : Model). ProperRun x cs) (sym e) (t .proper));
+    run = ap (λ (x : Model). modelRun x cs) e ∙ t .run;
+  }
+
+  takes-append : (xs ys : List Call) (p q r : Model) → Takes p xs q → Takes q ys r → Takes p (xs ++ ys) r
+  unfolding modelRun
+  takes-append [] ys p q r t u = subst (λ (x : Model). Takes x ys r) (sym (t .run)) u
+  takes-append (x ∷ xs) ys p q r t u =
+      let ih = takes-append xs ys (modelStep ks limit p x false) q r (record { proper = t .proper .2; run = t .run }) u in
+      record { proper = (t .proper .0, t .proper .1, ih .proper); run = ih .run }
+
+  -- a model that is open and not skipping
+  abbrev pub live : List Chunk → List ℕ → List Change → Model
+  live bs ts cs = model bs (chunk ts cs) false 0 false
+
+  -- what can be said: entries at an index that fit, with a class that the kind can have
+  abbrev AllAt : ℕ → List Entry → Type 0
+  AllAt i [] = Unit {0}
+  AllAt i (e ∷ es) = (e .index ≡ i) × AllAt i es
+
+  abbrev Said : (g t : ℕ) → List Entry → Type 0
+  Said g t [] = Unit {0}
+  Said g t (e ∷ es) = (decode (getD ks g Absent) (sayOf (getD ks g Absent) t (e .content)) ≡ accept (e .content) t) × Said g t es
+
+  said-fits : (g t n i : ℕ) (es : List Entry) → t ≤ topLimit (getD ks g Absent) → EntriesFit (getD ks g Absent) n i t es → Said g t es
+  said-fits g t n i [] h f = tt
+  said-fits g t n i (e ∷ es) h f =
+      (say-decodes (getD ks g Absent) t (e .content) (f .0 .content) (f .0 .class) h, said-fits g t n (e .index) es h (f .1))
+
+  front-at : (i : ℕ) (es : List Entry) → AllAt i (front i es)
+  unfolding front
+  front-at i [] = tt
+  front-at i (e ∷ es) = go (eqb (e .index) i) refl (front-at i es)
+    where
+      go : (b : Bool) → eqb (e .index) i ≡ b → AllAt i (front i es) → AllAt i (pick b (e ∷ front i es) [])
+      go true q h = (eqb-true (e .index) i q, h)
+      go false q h = tt
+
+  said-front : (i g t : ℕ) (es : List Entry) → Said g t es → Said g t (front i es)
+  unfolding front
+  said-front i g t [] h = tt
+  said-front i g t (e ∷ es) h = go (eqb (e .index) i) (said-front i g t es (h .1))
+    where
+      go : (b : Bool) → Said g t (front i es) → Said g t (pick b (e ∷ front i es) [])
+      go true q = (h .0, q)
+      go false q = tt
+
+  said-behind : (i g t : ℕ) (es : List Entry) → Said g t es → Said g t (behind i es)
+  unfolding behind
+  said-behind i g t [] h = tt
+  said-behind i g t (e ∷ es) h = go (eqb (e .index) i) (said-behind i g t es (h .1))
+    where
+      go : (b : Bool) → Said g t (behind i es) → Said g t (pick b (behind i es) (e ∷ es))
+      go true q = q
+      go false q = h
+
+  calls-take : (es : List Entry) (g t i : ℕ) (bs : List Chunk) (ts : List ℕ) (cs : List Change) → length ts ≡ suc i → AllAt i es → Said g t es
+      → Takes (live bs ts cs) (callsOf ks g t es) (live bs ts (cs ++ asChanges g t es))
+  unfolding callsOf asChanges modelStep modelChange
+  calls-take [] g t i bs ts cs l h s = takes-none (live bs ts cs) (live bs ts (cs ++ [])) (rw append-nil refl)
+  calls-take (e ∷ es) g t i bs ts cs l h s =
+      let m : length ts - 1 ≡ e .index = omega (arith, h .0) in
+      let c : Change = record { signal = g; place = e .index; content = e .content; class = t } in
+      let q : modelChange (live bs ts cs) g false (decode (getD ks g Absent) (sayOf (getD ks g Absent) t (e .content))) ≡ live bs ts (cs ++ c ∷ []) =
+      ap (modelChange (live bs ts cs) g false) (s .0)
+      ∙ ap (λ (n : ℕ). live bs ts (cs ++ record { signal = g; place = n; content = e .content; class = t } ∷ [])) m in
+      let ih = calls-take es g t i bs ts (cs ++ c ∷ []) l (h .1) (s .1) in
+      takes-cons (live bs ts cs) (live bs ts (cs ++ c ∷ [])) (live bs ts (cs ++ c ∷ asChanges g t es)) (change g (sayOf (getD ks g Absent) t (e .content))) (callsOf ks g t es)
+      refl (refl, omega arith, (e .content, t, s .0)) q
+      (subst (λ (x : List Change). Takes (live bs ts (cs ++ c ∷ [])) (callsOf ks g t es) (live bs ts x)) (append-assoc cs (c ∷ []) (asChanges g t es)) ih)
+
+  abbrev SaidAll : (g : ℕ) → List (Part (List Entry)) → Type 0
+  SaidAll g ps = (j : ℕ) → Said (g + j) (getD ps j noPart .top) (getD ps j noPart .stream)
+
+  round-take : (ps : List (Part (List Entry))) (i g : ℕ) (bs : List Chunk) (ts : List ℕ) (cs : List Change) → length ts ≡ suc i → SaidAll g ps
+      → Takes (live bs ts cs) (roundCalls ks i g ps) (live bs ts (cs ++ roundMarks i g ps))
+  unfolding roundCalls roundMarks
+  round-take [] i g bs ts cs l s = takes-none (live bs ts cs) (live bs ts (cs ++ [])) (rw append-nil refl)
+  round-take (p ∷ ps) i g bs ts cs l s =
+      let s0 : Said g (p .top) (p .stream) = subst (λ (x : ℕ). Said x (p .top) (p .stream)) (add-zero g) (s 0) in
+      let a : List Change = asChanges g (p .top) (front i (p .stream)) in
+      let t = calls-take (front i (p .stream)) g (p .top) i bs ts cs l (front-at i (p .stream)) (said-front i g (p .top) (p .stream) s0) in
+      let more : SaidAll (suc g) ps = λ j. subst (λ (x : ℕ). Said x (getD ps j noPart .top) (getD ps j noPart .stream)) (add-suc g j ∙ sym (suc-add g j)) (s (suc j)) in
+      let ih = round-take ps i (suc g) bs ts (cs ++ a) l more in
+      takes-append (callsOf ks g (p .top) (front i (p .stream))) (roundCalls ks i (suc g) ps) (live bs ts cs) (live bs ts (cs ++ a)) (live bs ts (cs ++ (a ++ roundMarks i (suc g) ps))) t
+      (subst (λ (x : List Change). Takes (live bs ts (cs ++ a)) (roundCalls ks i (suc g) ps) (live bs ts x)) (append-assoc cs a (roundMarks i (suc g) ps)) ih)
+
+  -- ---- times
+
+  way-take : (ts : List ℕ) (t : ℕ) → 0 < length ts → lastOr 0 ts < t → wayOf ts t ≡ above
+  unfolding wayOf lastOr
+  way-take [] t h l = absurd (omega arith)
+  way-take (x ∷ ts) t h l = rw (lt-ltb (lastOr x ts) t l) refl
+
+  time-take : (bs : List Chunk) (ts : List ℕ) (cs : List Change) (t : ℕ) → 0 < length ts → length ts < limit → lastOr 0 ts < t
+      → modelStep ks limit (live bs ts cs) (time t) false ≡ live bs (ts ++ t ∷ []) cs
+  unfolding modelStep modelTime
+  time-take bs ts cs t h l m =
+      let n : length ts ≡ limit → ⊥ = λ e. omega arith in
+      ap (modelTime limit (live bs ts cs) t) (way-take ts t h m) ∙ rw (ne-eqb (length ts) limit n) refl
+
+  time-cuts : (bs : List Chunk) (ts : List ℕ) (cs : List Change) (t : ℕ) → 0 < length ts → length ts ≡ limit → lastOr 0 ts < t
+      → modelStep ks limit (live bs ts cs) (time t) false ≡ live (bs ++ chunk ts cs ∷ []) (lastOr 0 ts ∷ t ∷ []) []
+  unfolding modelStep modelTime cut
+  time-cuts bs ts cs t h l m = ap (modelTime limit (live bs ts cs) t) (way-take ts t h m) ∙ rw (eq-eqb (length ts) limit l) refl
+
+  block-take : (us ts : List ℕ) (i : ℕ) (ps : List (Part (List Entry))) (bs : List Chunk) (cs : List Change) → length ts ≡ suc i → length ts + length us ≤ limit
+      → RisingFrom (lastOr 0 ts) us → SaidAll 0 ps → Takes (live bs ts cs) (blockCalls ks i us ps) (live bs (ts ++ us) (cs ++ blockMarks i us ps))
+  unfolding blockCalls blockMarks
+  block-take [] ts i ps bs cs l f r s = rw (append-nil ts) (round-take ps i 0 bs ts cs l s)
+  block-take (u ∷ us) ts i ps bs cs l f r s =
+      let a : List Change = roundMarks i 0 ps in
+      let z : lastOr 0 (ts ++ u ∷ []) ≡ u = last-append 0 ts (u ∷ []) ∙ last-one (lastOr 0 ts) u in
+      let la : length (ts ++ u ∷ []) ≡ suc (suc i) = rw length-append (omega arith) in
+      let more : SaidAll 0 (restOf i ps) = λ j. rw (rest-at i j ps) (said-behind i (0 + j) (getD ps j noPart .top) (getD ps j noPart .stream) (s j)) in
+      let ih = block-take us (ts ++ u ∷ []) (suc i) (restOf i ps) bs (cs ++ a) la (omega arith) (subst (λ (x : ℕ). RisingFrom x us) (sym z) (r .1)) more in
+      let e1 = append-assoc ts (u ∷ []) us in
+      let e2 = append-assoc cs a (blockMarks (suc i) us (restOf i ps)) in
+      let t = takes-cons (live bs ts (cs ++ a)) (live bs (ts ++ u ∷ []) (cs ++ a)) (live bs (ts ++ u ∷ us) (cs ++ (a ++ blockMarks (suc i) us (restOf i ps)))) (time u)
+      (blockCalls ks (suc i) us (restOf i ps)) refl tt (time-take bs ts (cs ++ a) u (omega arith) (omega arith) (r .0))
+      (subst (λ (x : List Change). Takes (live bs (ts ++ u ∷ []) (cs ++ a)) (blockCalls ks (suc i) us (restOf i ps)) (live bs (ts ++ u ∷ us) x)) e2
+      (subst (λ (x : List ℕ). Takes (live bs (ts ++ u ∷ []) (cs ++ a)) (blockCalls ks (suc i) us (restOf i ps)) (live bs x ((cs ++ a) ++ blockMarks (suc i) us (restOf i ps)))) e1 ih)) in
+      takes-append (roundCalls ks i 0 ps) (time u ∷ blockCalls ks (suc i) us (restOf i ps)) (live bs ts cs) (live bs ts (cs ++ a)) _ (round-take ps i 0 bs ts cs l s) t
+    where
+      last-one : (d u : ℕ) → lastOr d (u ∷ []) ≡ u
+      last-one d u = unfold lastOr in refl
+
+  -- ---- a block
+
+  -- by signal: what its part says fits, with a class that the kind can have
+  part-said : (k : SignalEncoding) (n i before : ℕ) (p : Option (Part (List Entry))) → OptionFits k n i before p
+      → EntriesFit k n i (bare p .top) (bare p .stream) × (bare p .top ≤ topLimit k)
+  part-said k n i before none f = (tt, omega arith)
+  part-said k n i before (some p) f = (f .entries, f .most)
+
+  module _ (end : Option ℕ) (tops : List ℕ) (s : Block (List Entry)) (follow : ℕ) (f : BlockFits limit ks end tops s follow) where
+    abbrev Count : ℕ
+    Count = length (s .times)
+
+    each-said : (g : ℕ) → EntriesFit (getD ks g Absent) Count (firstIndex end) (bare (getD (s .parts) g none) .top) (bare (getD (s .parts) g none) .stream)
+        × (bare (getD (s .parts) g none) .top ≤ topLimit (getD ks g Absent))
+    each-said g = go (decLt g (length ks))
+      where
+        go : Dec (g < length ks) → EntriesFit (getD ks g Absent) Count (firstIndex end) (bare (getD (s .parts) g none) .top) (bare (getD (s .parts) g none) .stream)
+            × (bare (getD (s .parts) g none) .top ≤ topLimit (getD ks g Absent))
+        go (yes h) = part-said (getD ks g Absent) Count (firstIndex end) (getD tops g 0) (getD (s .parts) g none) (parts-each Count (firstIndex end) ks tops (s .parts) (f .parts) g h)
+        go (no h) =
+            let c = parts-count Count (firstIndex end) ks tops (s .parts) (f .parts) in
+            let z : getD (s .parts) g none ≡ none = List·getD-eq-default (s .parts) none (past c h) in
+            rw z (tt, omega arith)
+          where
+            past : length (s .parts) ≡ length ks → (g < length ks → ⊥) → length (s .parts) ≤ g
+            past c h = omega arith
+
+    said-all : SaidAll 0 (bares (s .parts))
+    said-all j =
+        let e = each-said j in
+        subst (λ (p : Part (List Entry)). Said (0 + j) (p .top) (p .stream)) (sym (bares-at j (s .parts)))
+        (subst (λ (x : ℕ). Said x (bare (getD (s .parts) j none) .top) (bare (getD (s .parts) j none) .stream)) (sym (zero-add j))
+        (said-fits j (bare (getD (s .parts) j none) .top) Count (firstIndex end) (bare (getD (s .parts) j none) .stream) (e .1) (e .0)))
+
+    -- what the calls of the block record of each signal
+    marks-of : (us : List ℕ) → Count ≡ suc (firstIndex end) + length us → (g : ℕ)
+        → ofs g (blockMarks (firstIndex end) us (bares (s .parts))) ≡ asChanges g (bare (getD (s .parts) g none) .top) (bare (getD (s .parts) g none) .stream)
+    marks-of us e g =
+        let b = bares-at g (s .parts) in
+        subst (λ (p : Part (List Entry)). ofs g (blockMarks (firstIndex end) us (bares (s .parts))) ≡ asChanges g (p .top) (p .stream)) b
+        (block-of (getD ks g Absent) Count us (firstIndex end) g (bares (s .parts)) e
+        (subst (λ (p : Part (List Entry)). EntriesFit (getD ks g Absent) Count (firstIndex end) (p .top) (p .stream)) (sym b) (each-said g .0)))
+
+    module _ (seen cs : List Change) (e : (g : ℕ) → g < length ks → getD tops g 0 ≡ topOf g seen)
+        (o : (g : ℕ) → ofs g cs ≡ asChanges g (bare (getD (s .parts) g none) .top) (bare (getD (s .parts) g none) .stream)) where
+      option-fits : (g : ℕ) → g < length ks → OptionFits (getD ks g Absent) Count (firstIndex end) (topOf g seen) (getD (s .parts) g none)
+      option-fits g h =
+          subst (λ (t : ℕ). OptionFits (getD ks g Absent) Count (firstIndex end) t (getD (s .parts) g none)) (e g h)
+          (parts-each Count (firstIndex end) ks tops (s .parts) (f .parts) g h)
+
+      stored-back : storedOf (length ks) (seen ++ cs) (chunk (s .times) cs) ≡ s
+      stored-back =
+          let c = parts-count Count (firstIndex end) ks tops (s .parts) (f .parts) in
+          let t = tab-ext 0 (length ks) (λ (g : ℕ). partWith (topOf g (seen ++ cs)) (listOf g cs)) (λ (g : ℕ). getD (s .parts) g none)
+          (λ g h. let h' : g < length ks = omega arith in part-back (getD ks g Absent) Count (firstIndex end) seen cs g (getD (s .parts) g none) (option-fits g h') (o g)) in
+          let q : tab 0 (length ks) (λ (g : ℕ). partWith (topOf g (seen ++ cs)) (listOf g cs)) ≡ s .parts =
+          t ∙ ap (λ (n : ℕ). tab 0 n (λ (g : ℕ). getD (s .parts) g none)) (sym c) ∙ tab-self (s .parts) none in
+          ap (block (s .times)) q
+
+      tops-back : (g : ℕ) → g < length ks → getD (topsAfter tops (s .parts)) g 0 ≡ topOf g (seen ++ cs)
+      tops-back g h =
+          let c = parts-count Count (firstIndex end) ks tops (s .parts) (f .parts) in
+          tops-at g tops (s .parts) (omega arith) ∙ ap (λ (t : ℕ). topAfter t (getD (s .parts) g none)) (e g h)
+          ∙ top-back (getD ks g Absent) Count (firstIndex end) seen cs g (getD (s .parts) g none) (option-fits g h) (o g)
+
+  -- ---- an image
+
+  later-take : (s : Block (List Entry)) (times : List ℕ) (bs : List Chunk) (ts : List ℕ) (cs : List Change) → 0 < length ts → length ts ≡ limit
+      → Begins (some (lastOr 0 ts)) times → Rising times → length times ≤ limit → SaidAll 0 (bares (s .parts))
+      → Takes (live bs ts cs) (laterCalls ks times (bares (s .parts))) (live (bs ++ chunk ts cs ∷ []) times (blockMarks 1 (drop 2 times) (bares (s .parts))))
+  unfolding laterCalls
+  later-take s [] bs ts cs k l b r f v = absurd (omega (arith, b .0))
+  later-take s (x ∷ []) bs ts cs k l b r f v = absurd (omega (arith, b .0))
+  later-take s (x ∷ t ∷ us) bs ts cs k l b r f v =
+      let lt : lastOr 0 ts < t = omega (arith, r .0, b .1) in
+      let bs′ : List Chunk = bs ++ chunk ts cs ∷ [] in
+      let q : modelStep ks limit (live bs ts cs) (time t) false ≡ live bs′ (x ∷ t ∷ []) [] = time-cuts bs ts cs t k l lt ∙ ap (λ (y : ℕ). live bs′ (y ∷ t ∷ []) []) (sym (b .1)) in
+      takes-cons (live bs ts cs) (live bs′ (x ∷ t ∷ []) []) (live bs′ (x ∷ t ∷ us) (blockMarks 1 us (bares (s .parts)))) (time t) (blockCalls ks 1 us (bares (s .parts))) refl tt q
+      (block-take us (x ∷ t ∷ []) 1 (bares (s .parts)) bs′ [] refl (omega arith) (rises (r .1)) v)
+    where
+      rises : RisingFrom t us → RisingFrom (lastOr 0 (x ∷ t ∷ [])) us
+      rises h = unfold lastOr in h
+
+  -- a list of calls, taken whole, after which a finish leaves the blocks ss
+  pub record Rebuilt (p : Model) (cs : List Call) (ss : List (Block (List Entry))) : Type 0 where
+    pub blocks : List Chunk
+    pub times : List ℕ
+    pub marks : List Change
+    pub takes : Takes p cs (live blocks times marks)
+    pub any : 0 < length times
+    pub image : imageOf (length ks) [] (blocks ++ chunk times marks ∷ []) ≡ ss
+
+  filled-most : (n follow : ℕ) → Filled limit n follow → n ≤ limit
+  filled-most n zero f = f
+  filled-most n (suc follow) f = omega arith
+
+  rest-take : (ss : List (Block (List Entry))) (bs : List Chunk) (ts : List ℕ) (cs : List Change) (tops : List ℕ) → 0 < length ts → Filled limit (length ts) (length ss)
+      → ((g : ℕ) → g < length ks → getD tops g 0 ≡ topOf g (seenOf bs ++ cs)) → BlocksFit limit ks (some (lastOr 0 ts)) tops ss
+      → Rebuilt (live bs ts cs) (restCalls ks ss) (imageOf (length ks) [] (bs ++ chunk ts cs ∷ []) ++ ss)
+  unfolding restCalls
+  rest-take [] bs ts cs tops k full e v = record {
+    blocks = bs;
+    times = ts;
+    marks = cs;
+    takes = takes-none (live bs ts cs) (live bs ts cs) refl;
+    any = k;
+    image = sym (append-nil (imageOf (length ks) [] (bs ++ chunk ts cs ∷ [])));
+  }
+  rest-take (s ∷ ss) bs ts cs tops k full e v =
+      let b = v .0 in
+      let bs′ : List Chunk = bs ++ chunk ts cs ∷ [] in
+      let us : List ℕ = drop 2 (s .times) in
+      let cs′ : List Change = blockMarks 1 us (bares (s .parts)) in
+      let lu : length (s .times) ≡ suc 1 + length us = omega (arith, length-drop 2 (s .times), b .begins .0) in
+      let o = marks-of (some (lastOr 0 ts)) tops s (length ss) b us lu in
+      let e′ : (g : ℕ) → g < length ks → getD tops g 0 ≡ topOf g (seenOf bs′) = λ g h. e g h ∙ ap (topOf g) (sym (seen-snoc bs (chunk ts cs))) in
+      let st = stored-back (some (lastOr 0 ts)) tops s (length ss) b (seenOf bs′) cs′ e′ o in
+      let ih = rest-take ss bs′ (s .times) cs′ (topsAfter tops (s .parts)) (omega (arith, b .begins .0)) (b .filled)
+      (tops-back (some (lastOr 0 ts)) tops s (length ss) b (seenOf bs′) cs′ e′ o) (v .1) in
+      let t = later-take s (s .times) bs ts cs k full (b .begins) (b .rising) (filled-most (length (s .times)) (length ss) (b .filled)) (said-all (some (lastOr 0 ts)) tops s (length ss) b) in
+      record {
+        blocks = ih .blocks;
+        times = ih .times;
+        marks = ih .marks;
+        takes = takes-append (laterCalls ks (s .times) (bares (s .parts))) (restCalls ks ss) (live bs ts cs) (live bs′ (s .times) cs′) (live (ih .blocks) (ih .times) (ih .marks)) t (ih .takes);
+        any = ih .any;
+        image = ih .image
+            ∙ ap (λ (x : List (Block (List Entry))). x ++ ss) (image-snoc (length ks) bs′ (chunk (s .times) cs′) [] ∙ ap (λ (x : Block (List Entry)). imageOf (length ks) [] bs′ ++ x ∷ []) st)
+            ∙ append-assoc (imageOf (length ks) [] bs′) (s ∷ []) ss;
+      }
+
+  first-take : (s : Block (List Entry)) (times : List ℕ) → 0 < limit → 1 ≤ length times → Rising times → length times ≤ limit → SaidAll 0 (bares (s .parts))
+      → Takes noModel (firstCalls ks times (bares (s .parts))) (live [] times (blockMarks 0 (drop 1 times) (bares (s .parts))))
+  unfolding firstCalls modelStep modelTime wayOf
+  first-take s [] pos one r f v = absurd (omega arith)
+  first-take s (t ∷ us) pos one r f v =
+      let n : 0 ≡ limit → ⊥ = λ z. omega arith in
+      takes-cons noModel (live [] (t ∷ []) []) (live [] (t ∷ us) (blockMarks 0 us (bares (s .parts)))) (time t) (blockCalls ks 0 us (bares (s .parts))) refl tt (rw (ne-eqb 0 limit n) refl)
+      (block-take us (t ∷ []) 0 (bares (s .parts)) [] [] refl (omega arith) (rises r) v)
+    where
+      rises : RisingFrom t us → RisingFrom (lastOr 0 (t ∷ [])) us
+      rises h = unfold lastOr in h
+
+  -- every image with a block is left by its list of calls and a finish
+  pub rebuild : (s : Block (List Entry)) (ss : List (Block (List Entry))) → 0 < limit → BlocksFit limit ks none [] (s ∷ ss) → Rebuilt noModel (imageCalls ks (s ∷ ss)) (s ∷ ss)
+  unfolding imageCalls imageOf seenOf
+  rebuild s ss pos v =
+      let b = v .0 in
+      let us : List ℕ = drop 1 (s .times) in
+      let cs : List Change = blockMarks 0 us (bares (s .parts)) in
+      let lu : length (s .times) ≡ suc 0 + length us = omega (arith, length-drop 1 (s .times), b .begins) in
+      let o = marks-of none [] s (length ss) b us lu in
+      let st = stored-back none [] s (length ss) b [] cs (λ g h. zero-top g) o in
+      let ih = rest-take ss [] (s .times) cs (topsAfter [] (s .parts)) (omega (arith, b .begins)) (b .filled) (tops-back none [] s (length ss) b [] cs (λ g h. zero-top g) o) (v .1) in
+      record {
+        blocks = ih .blocks;
+        times = ih .times;
+        marks = ih .marks;
+        takes = takes-append (firstCalls ks (s .times) (bares (s .parts))) (restCalls ks ss) noModel (live [] (s .times) cs) (live (ih .blocks) (ih .times) (ih .marks))
+            (first-take s (s .times) pos (b .begins) (b .rising) (filled-most (length (s .times)) (length ss) (b .filled)) (said-all none [] s (length ss) b)) (ih .takes);
+        any = ih .any;
+        image = ih .image ∙ ap (λ (x : Block (List Entry)). x ∷ ss) st;
+      }
+    where
+      zero-top : (g : ℕ) → getD {A = ℕ} [] g 0 ≡ topOf g []
+      zero-top g = unfold topOf in refl
