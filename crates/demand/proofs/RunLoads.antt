@@ -1,11 +1,13 @@
 -- A recording of every kind of signal, computed from the start to what its image loads as: refusals 3, 4 and 6, a skip, an equal time, a
 -- cut, a repeat across the cut, a raw claim above the value, -0.0 beside 0.0, events in both blocks.
 -- Assumes nothing.
-use Prim.Native.Nat.{ℕ}
+use Prim.Native.Nat.{ℕ, zero, suc, _<_, _^_}
 use mathlib.Core.Path.{_≡_, refl}
 use mathlib.Core.Bool.{true}
 use mathlib.Core.List.{List, [], _∷_, _++_}
-use lib.ListN.{replicate}
+use native.Mathlib.Omega.{arith}
+use lib.ListN.{getD, replicate, length-replicate}
+use Rattle.lists.proofs.BytesLaws.{no-bytes, cons-bytes}
 use Rattle.lists.specs.Last.{lastOr}
 use Rattle.lists.specs.Same.{same}
 use Rattle.numbers.specs.Leb128.{groups, lebOf, readLeb}
@@ -23,7 +25,7 @@ use Rattle.stream.specs.Entries.{entry, streamBytes}
 use Rattle.image.specs.Block.{les, dataOf, offsetsFrom, blockBytes}
 use Rattle.image.specs.Head.{headBytes}
 use Rattle.image.specs.Image.{streamedParts, blocksBytes, imageBytes}
-use Rattle.recording.specs.Calls.{Call, time, change, finish, taken, back, recorded, skipped, Reply, say, total, refusals, heard, wayOf}
+use Rattle.recording.specs.Calls.{Call, Slice, Fitting, time, change, finish, taken, back, recorded, skipped, Reply, say, total, refusals, heard, wayOf}
 use Rattle.recording.specs.Calls as calls
 use Rattle.recording.specs.Work.{itemsOf, gather}
 use Rattle.recording.specs.Memory.{Memory, memory, recordOf}
@@ -40,7 +42,7 @@ use Rattle.loaded.specs.Loading.{tableFrom, moved, repeatsLast, pushed, loadFro
 use Rattle.loaded.specs.EntryBytes.{entryBytes, entriesBytes}
 use Rattle.loaded.specs.Reader.{loadOf, loadAfter, loaded, loadIn, tableOf, tableAfter, counted, tableIn}
 use Rattle.loaded.specs.Reader as reader
-use Rattle.demand.specs.Demand3.{ranFrom, leftBy}
+use Rattle.demand.specs.Demand3.{RecordsFit, Lent, Recorded, ranFrom, leftBy}
 
 -- a vector of width 2, an event, a real, an absent signal; B 2
 abbrev mixed : Memory
@@ -87,6 +89,43 @@ mixed-left = refl
 pub mixed-finish : step (ranFrom 2 4 mixed mixedCalls .last) finish .reply ≡ total 153
 unfolding groups lebOf le unle symbolOf classOfAll allSymbols symbolsIn lastOr vcdBit textOf extended textSymbols numberOf digits packed unpacked rawSymbols decode changeBytes les dataOf offsetsFrom blockBytes headBytes wayOf itemsOf gather unknownKind startTests stateTests partsFrom cutOf timeOf changeOf finishOf startOf step run
 mixed-finish = refl
+
+-- the list meets demand 3's premises
+nines-at : (n i : ℕ) → getD (replicate n 99) i 0 < 256
+nines-at zero i = omega arith
+nines-at (suc n) zero = omega arith
+nines-at (suc n) (suc i) = nines-at n i
+
+nines-slice : (n : ℕ) → n < 2 ^ 63 → Slice (replicate n 99)
+nines-slice n h = (nines-at n, rw (length-replicate {A = ℕ} n 99) h)
+
+mixed-lent : Lent mixed
+unfolding RecordsFit
+mixed-lent = record {
+  state = record { limit = omega arith; signals = omega arith; held = omega arith; work = omega arith; image = omega arith; blocks = omega arith; skipped = omega arith };
+  records = ((omega arith, omega arith), ((omega arith, omega arith), ((omega arith, omega arith), ((omega arith, omega arith), tt))));
+  work = nines-slice 64 (omega arith);
+  image = nines-slice 200 (omega arith);
+  times = λ i. let h = nines-at 2 i in omega arith;
+  long = omega arith;
+}
+
+empty : Slice []
+empty = (no-bytes, omega arith)
+
+one : (x : ℕ) → x < 256 → Slice (x ∷ [])
+one x h = (cons-bytes x [] h no-bytes, omega arith)
+
+two : (x y : ℕ) → x < 256 → y < 256 → Slice (x ∷ y ∷ [])
+two x y h k = (cons-bytes x (y ∷ []) h (cons-bytes y [] k no-bytes), omega arith)
+
+mixed-fits : Fitting mixedCalls
+unfolding Fitting
+mixed-fits = ((omega arith, one 49 (omega arith)), (omega arith, ((omega arith, two 49 120 (omega arith) (omega arith)), ((omega arith, empty), (omega arith, ((omega arith, omega arith), ((omega arith, omega arith), (omega arith, ((omega arith, one 113 (omega arith)), (omega arith, ((omega arith, empty), (omega arith, ((omega arith, two 49 120 (omega arith) (omega arith)), ((omega arith, (omega arith, one 0x12 (omega arith))), ((omega arith, one 113 (omega arith)), ((omega arith, empty), ((omega arith, empty), ((omega arith, (omega arith, one 0x08 (omega arith))), tt))))))))))))))))))
+
+pub mixed-recorded : Recorded 2 4 mixed mixedCalls 153
+unfolding groups lebOf le unle symbolOf classOfAll allSymbols symbolsIn lastOr vcdBit textOf extended textSymbols numberOf digits packed unpacked rawSymbols decode changeBytes les dataOf offsetsFrom blockBytes headBytes wayOf itemsOf gather unknownKind startTests stateTests partsFrom cutOf timeOf changeOf finishOf startOf step run
+mixed-recorded = record { lent = mixed-lent; fitting = mixed-fits; start = refl; end = refl }
 
 abbrev mixedReplies : List Reply
 mixedReplies =

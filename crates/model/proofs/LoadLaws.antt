@@ -17,7 +17,7 @@ use Rattle.image.specs.Block.{Part, Block}
 use Rattle.history.specs.History.{Change, listOf, topOf, kept, keptAfter}
 use Rattle.loaded.specs.Opener.{partAt}
 use Rattle.loaded.specs.Loading.{overlap, joinTimes, tableFrom, moved, repeatsLast, pushed, Load, load, entriesIn, topIn, loadBlock, loadFrom, loads}
-use Rattle.loaded.proofs.RepeatLaws.{repeats-equal}
+use Rattle.stream.proofs.RepeatLaws.{repeats-equal}
 use Rattle.model.specs.Model.{Chunk, noChunk, shifts, join, joined, tab, partWith, storedOf, imageOf}
 
 -- ---- a signal's list, and its class

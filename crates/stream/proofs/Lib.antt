@@ -4,3 +4,4 @@ pub mod SaysLaws
 pub mod ReadLaws
 pub mod WriteLaws
 pub mod Cases
+pub mod RepeatLaws
