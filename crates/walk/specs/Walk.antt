@@ -1,0 +1,80 @@
+-- The image that accepted bytes are, where its blocks and their parts begin, and what its blocks add to the combined table.
+-- Laws: proofs/HeadLaws, proofs/BlockLaws, proofs/PartLaws, proofs/TableLaws; for entry points, proofs/OpenLaws.
+-- Assumes nothing.
+use Prim.Native.Nat.{ℕ, _+_, _-_, _≤_, _<_}
+use mathlib.Core.Path.{_≡_}
+use mathlib.Core.Bool.{true}
+use mathlib.Core.List.{List, [], _∷_, _++_}
+use mathlib.Core.Option.{Option, some, none}
+use lib.ListN.{length, take, drop}
+use Rattle.signal.specs.declared.kind.SignalEncoding.{SignalEncoding}
+use Rattle.stream.specs.Entries.{Entry}
+use Rattle.image.specs.Block.{Part, Block, dataOf, blockSize}
+use Rattle.image.specs.Head.{headSize}
+use Rattle.image.specs.Image.{Image, image, streamedParts, blocksBytes}
+use Rattle.codec.specs.Parse.{parse}
+use Rattle.loaded.specs.Opener.{openOf, blockAt, streamIn}
+use Rattle.loaded.specs.Loading.{topIn}
+
+-- the opener accepts
+abbrev pub Opened : List ℕ → Type 0
+Opened b = openOf b ≡ true
+
+abbrev pub imageFrom : Option Image → Image
+imageFrom none = image 0 [] []
+imageFrom (some x) = x
+
+-- the image that bytes are, an empty one where they are none
+unfoldable pub imageIn : List ℕ → Image
+imageIn b = imageFrom (parse b)
+
+-- where block number n begins, and, at the number of blocks, where the image ends
+unfoldable pub blockPlace : Image → ℕ → ℕ
+blockPlace x n = headSize (length (x .kinds)) + length (blocksBytes (x .kinds) (take n (x .blocks)))
+
+-- the parts of block number n as bytes
+abbrev pub partsIn : Image → ℕ → List (Option (Part (List ℕ)))
+partsIn x n = streamedParts (x .kinds) (blockAt x n .parts)
+
+-- where the data of block number n begin
+abbrev pub dataPlace : Image → ℕ → ℕ
+dataPlace x n = blockPlace x n + blockSize (length (x .kinds)) (length (blockAt x n .times)) 0
+
+-- where in block number n the part of signal g begins, if there is one; at the number of signals, where the block ends
+unfoldable pub partPlace : Image → (n g : ℕ) → ℕ
+partPlace x n g = dataPlace x n + length (dataOf (take g (partsIn x n)))
+
+-- block number n begins at byte `at`
+pub record BlockHere (n at : ℕ) (b : List ℕ) : Type 0 where
+  pub exists : n < length (imageIn b .blocks)
+  pub place : at ≡ blockPlace (imageIn b) n
+
+-- some block begins there
+abbrev pub SomeBlock : (at : ℕ) → List ℕ → Type 0
+SomeBlock at b = (n : ℕ) × BlockHere n at b
+
+-- some block begins there that has a time number i
+abbrev pub TimeHere : (at i : ℕ) → List ℕ → Type 0
+TimeHere at i b = (n : ℕ) × BlockHere n at b × (i < length (blockAt (imageIn b) n .times))
+
+-- some block begins there, and the signal exists
+abbrev pub SignalHere : (at signal : ℕ) → List ℕ → Type 0
+SignalHere at g b = SomeBlock at b × (g < length (imageIn b .kinds))
+
+-- the bytes from one place to another are the stream of a part of a signal of kind k, and `top` is the part's top class
+pub record PartHere (from to top : ℕ) (k : SignalEncoding) (p : Option (Part (List Entry))) (b : List ℕ) : Type 0 where
+  pub ordered : from ≤ to
+  pub inside : to ≤ length b
+  pub stream : take (to - from) (drop from b) ≡ streamIn k p
+  pub class : top ≡ topIn p
+
+-- the times that blocks add to the combined table: those of the first one without its first `skip`, those of each later one without the
+-- first
+unfoldable pub joined : (skip : ℕ) → List (Block (List Entry)) → List ℕ
+joined skip [] = []
+joined skip (y ∷ ys) = drop skip (y .times) ++ joined 1 ys
+
+-- some block begins there, and its times without the first `skip` fit into a list of `room` numbers from a place on
+abbrev pub TimesFit : (at skip from room : ℕ) → List ℕ → Type 0
+TimesFit at skip from room b =
+    (n : ℕ) × BlockHere n at b × (skip ≤ length (blockAt (imageIn b) n .times)) × (from + (length (blockAt (imageIn b) n .times) - skip) ≤ room)

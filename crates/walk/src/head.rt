@@ -1,0 +1,35 @@
+// The head of an accepted image.
+use numbers::little_endian::get_u32;
+use signal::kind::SignalEncoding;
+use storage::kind_from;
+ghost use mathlib.Core.Path.{_≡_};
+ghost use lib.ListN.{length};
+ghost use Rattle.loaded.specs.Opener.{kindAt};
+ghost use Rattle.walk.specs.Walk.{Opened, imageIn};
+
+// How many signals there are.
+pub fn signal_count(image: &[u8]) -> u32
+    requires { ⌜ Opened (now image) ⌝ }
+    ensures { λ r. ⌜ r ≡ length (imageIn (now (image .entry)) .kinds) ⌝ }
+{
+    get_u32(image, 0)
+}
+
+// How many blocks there are.
+pub fn block_count(image: &[u8]) -> u32
+    requires { ⌜ Opened (now image) ⌝ }
+    ensures { λ r. ⌜ r ≡ length (imageIn (now (image .entry)) .blocks) ⌝ }
+{
+    get_u32(image, 8)
+}
+
+// A signal's kind; past the signals stands an absent one.
+pub fn kind_at(image: &[u8], signal: u32) -> SignalEncoding
+    requires { ⌜ Opened (now image) ⌝ }
+    ensures { λ r. ⌜ r ≡ kindAt (imageIn (now (image .entry))) signal ⌝ }
+{
+    if signal_count(image) <= signal {
+        return SignalEncoding::Absent;
+    }
+    kind_from(get_u32(image, 16 + 4 * (signal as usize)))
+}

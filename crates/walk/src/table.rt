@@ -1,0 +1,82 @@
+// The combined table of an accepted image.
+use crate::block::first_block;
+use crate::block::next_block;
+use crate::block::time_at;
+use crate::block::times_in;
+use crate::head::block_count;
+use loaded::TableAnswer;
+ghost use mathlib.Core.Path.{_≡_};
+ghost use mathlib.Core.List.{[]};
+ghost use Prim.Native.Nat.{ℕ, _+_, _-_, _≤_};
+ghost use lib.ListN.{length, drop};
+ghost use lib.Seq.{sets};
+ghost use Rattle.loaded.specs.Opener.{blockAt};
+ghost use Rattle.loaded.specs.Loading.{tableFrom};
+ghost use Rattle.loaded.specs.Reader.{tableReply, tableAfter, tableIn};
+ghost use Rattle.walk.specs.Walk.{Opened, imageIn, BlockHere, TimesFit};
+
+// How many times the combined table has.
+pub fn table_length(image: &[u8]) -> u32
+    requires { ⌜ Opened (now image) ⌝ }
+    ensures { λ r. ⌜ r ≡ length (tableFrom [] (imageIn (now (image .entry)) .blocks)) ⌝ }
+{
+    let blocks = block_count(image);
+    let mut at = first_block(image);
+    let mut skip: u32 = 0;
+    let mut n: u32 = 0;
+    let mut k: u32 = 0;
+    while k < blocks {
+        n = n + (times_in(image, at) - skip);
+        at = next_block(image, at);
+        skip = 1;
+        k += 1;
+    }
+    n
+}
+
+// Writes a block's times without the first `skip` from a place on, and answers the place after them.
+fn put_times(image: &[u8], at: usize, skip: u32, out: &mut [u64], place: usize) -> usize
+    requires { ⌜ Opened (now image) × TimesFit at skip place (length (now out)) (now image) ⌝ }
+    ensures { λ r. ⌜ ((n : ℕ) → BlockHere n at (now (image .entry)) → (r ≡ place + (length (blockAt (imageIn (now (image .entry))) n .times) - skip)) × (now (out .exit) ≡ sets (now (out .entry)) place (drop skip (blockAt (imageIn (now (image .entry))) n .times)))) ⌝ }
+{
+    let held = times_in(image, at);
+    let mut i = skip;
+    let mut p = place;
+    while i < held {
+        out[p] = time_at(image, at, i);
+        p += 1;
+        i += 1;
+    }
+    p
+}
+
+// Writes the combined table, which fits.
+fn put_table(image: &[u8], out: &mut [u64])
+    requires { ⌜ Opened (now image) × (length (tableFrom [] (imageIn (now image) .blocks)) ≤ length (now out)) ⌝ }
+    ensures { λ _. ⌜ now (out .exit) ≡ sets (now (out .entry)) 0 (tableFrom [] (imageIn (now (image .entry)) .blocks)) ⌝ }
+{
+    let blocks = block_count(image);
+    let mut at = first_block(image);
+    let mut skip: u32 = 0;
+    let mut p: usize = 0;
+    let mut k: u32 = 0;
+    while k < blocks {
+        p = put_times(image, at, skip, out, p);
+        at = next_block(image, at);
+        skip = 1;
+        k += 1;
+    }
+}
+
+// Writes the combined table and answers its length; 9, and nothing is written, where it does not fit.
+pub fn table_in(image: &[u8], out: &mut [u64]) -> TableAnswer
+    requires { ⌜ Opened (now image) ⌝ }
+    ensures { λ r. ⌜ tableAfter (tableReply r) (now (out .exit)) ≡ tableIn (imageIn (now (image .entry))) (now (out .entry)) ⌝ }
+{
+    let n = table_length(image);
+    if out.len() < n as usize {
+        return TableAnswer::Refused(9);
+    }
+    put_table(image, out);
+    TableAnswer::Table(n)
+}
