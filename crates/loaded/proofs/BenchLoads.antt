@@ -73,9 +73,9 @@ unfolding parse imageForm headForm blockForm layoutForm repeat each lengths unle
 bench-streams = (refl, refl, refl)
 
 -- at 9, before the first: entry 0 with its time 10; at 19 entry 0; at 20 entry 1; a buffer of three bytes is too short
-pub bench-cursor : (cursorOf benchBytes 1 9 (7 ∷ 7 ∷ 7 ∷ 7 ∷ 7 ∷ []) ≡ cursorAfter (found 0 10 (vector 1)) (0 ∷ 0 ∷ 1 ∷ 2 ∷ 7 ∷ []))
-    × (cursorOf benchBytes 1 19 (7 ∷ 7 ∷ 7 ∷ 7 ∷ []) ≡ cursorAfter (found 0 10 (vector 1)) (0 ∷ 0 ∷ 1 ∷ 2 ∷ []))
-    × (cursorOf benchBytes 1 20 (7 ∷ 7 ∷ 7 ∷ 7 ∷ []) ≡ cursorAfter (found 1 20 (vector 0)) (0 ∷ 0 ∷ 0 ∷ 1 ∷ []))
+pub bench-cursor : (cursorOf benchBytes 1 9 (7 ∷ 7 ∷ 7 ∷ 7 ∷ 7 ∷ []) ≡ cursorAfter (found 0 10 (vector 1 0)) (0 ∷ 0 ∷ 1 ∷ 2 ∷ 7 ∷ []))
+    × (cursorOf benchBytes 1 19 (7 ∷ 7 ∷ 7 ∷ 7 ∷ []) ≡ cursorAfter (found 0 10 (vector 1 0)) (0 ∷ 0 ∷ 1 ∷ 2 ∷ []))
+    × (cursorOf benchBytes 1 20 (7 ∷ 7 ∷ 7 ∷ 7 ∷ []) ≡ cursorAfter (found 1 20 (vector 0 0)) (0 ∷ 0 ∷ 0 ∷ 1 ∷ []))
     × (cursorOf benchBytes 1 20 (7 ∷ 7 ∷ 7 ∷ []) ≡ cursorAfter (reader.refuse 9) (7 ∷ 7 ∷ 7 ∷ []))
 unfolding parse imageForm headForm blockForm layoutForm repeat each lengths unle readLeb stream getChain readChange valueAfter unpacked classOfAll allSymbols digits numberOf lastOr imageBytes blocksBytes streamedParts streamBytes headBytes blockBytes les dataOf offsetsFrom le lebOf groups changeBytes packed risingFrom? rising? eachBelow? knownKinds? contentFits? entryFits? entriesFit? partFits? partsFit? begins? filled? blockFits? blocksFit? valid? moved repeatsLast pushed loadFrom lastBefore cursorIn same
 bench-cursor = (refl, refl, refl, refl)
@@ -101,9 +101,9 @@ unfolding parse imageForm headForm blockForm layoutForm repeat each lengths unle
 blocks-load = (refl, refl, refl, refl, refl, refl, refl, refl)
 
 -- of the entries up to a time the last; an event and "none" leave the buffer
-pub blocks-cursor : (cursorOf twoBlocks 0 2 (9 ∷ []) ≡ cursorAfter (found 1 2 (vector 0)) (1 ∷ []))
-    × (cursorOf twoBlocks 0 0xffffffffffffffff (9 ∷ 9 ∷ []) ≡ cursorAfter (found 2 3 (vector 1)) (2 ∷ 9 ∷ []))
-    × (cursorOf twoBlocks 1 0 (9 ∷ []) ≡ cursorAfter (found 0 2 event) (9 ∷ []))
+pub blocks-cursor : (cursorOf twoBlocks 0 2 (9 ∷ []) ≡ cursorAfter (found 1 2 (vector 0 0)) (1 ∷ []))
+    × (cursorOf twoBlocks 0 0xffffffffffffffff (9 ∷ 9 ∷ []) ≡ cursorAfter (found 2 3 (vector 1 0)) (2 ∷ 9 ∷ []))
+    × (cursorOf twoBlocks 1 0 (9 ∷ []) ≡ cursorAfter (found 0 2 (event 0)) (9 ∷ []))
     × (cursorOf twoBlocks 3 5 (9 ∷ []) ≡ cursorAfter nothing (9 ∷ []))
 unfolding parse imageForm headForm blockForm layoutForm repeat each lengths unle readLeb stream getChain readChange valueAfter unpacked classOfAll allSymbols digits numberOf lastOr imageBytes blocksBytes streamedParts streamBytes headBytes blockBytes les dataOf offsetsFrom le lebOf groups changeBytes packed risingFrom? rising? eachBelow? knownKinds? contentFits? entryFits? entriesFit? partFits? partsFit? begins? filled? blockFits? blocksFit? valid? moved repeatsLast pushed loadFrom entryBytes entriesBytes loadIn same lastBefore cursorIn
 blocks-cursor = (refl, refl, refl, refl)

@@ -60,7 +60,7 @@ module _ (w t x : ℕ) (r : List ℕ) (free : w * bitsOf t ≤ length r * 8 + 6)
       ∙ ap (digits (bitsOf t) w) (ap (λ (v : ℕ). v % 2 ^ k) carried-number ∙ mul-add-mod-self-right t (2 ^ k) n)
       ∙ digits-mod (bitsOf t) w k n free
 
-  first-small : topClear w t (x ∷ r) ≡ true → x < 64
+  pub first-small : topClear w t (x ∷ r) ≡ true → x < 64
   unfolding numberOf
   first-small h =
       let p : ℕ = 2 ^ (length r * 8) in
@@ -69,7 +69,7 @@ module _ (w t x : ℕ) (r : List ℕ) (free : w * bitsOf t ≤ length r * 8 + 6)
       lt-of-mul-lt-mul-right p (omega arith)
 
 -- where no class byte precedes them and C is not Two, the bytes in C have two bits more than any class up to C needs
-free-bits : (w c t : ℕ) → c ≤ 2 → t ≤ c → (ltb 0 c && eqb (w % (8 / bitsOf c)) 0) ≡ false → 0 < c → w * bitsOf t + 2 ≤ 8 * packedLength w c
+pub free-bits : (w c t : ℕ) → c ≤ 2 → t ≤ c → (ltb 0 c && eqb (w % (8 / bitsOf c)) 0) ≡ false → 0 < c → w * bitsOf t + 2 ≤ 8 * packedLength w c
 free-bits w zero t h k e z = absurd (omega arith)
 free-bits w (suc zero) zero h k e z = let f = eqb-false (w % 4) 0 e in omega arith
 free-bits w (suc zero) (suc zero) h k e z = let f = eqb-false (w % 4) 0 e in omega arith

@@ -105,24 +105,24 @@ tableOf b out = tableBy (parse b) out
 
 -- ---- one entry
 
--- an event, symbols with their class (they go into a lent buffer), or a real holding its f64, and its bits
+-- an event, symbols with their class (they go into a lent buffer), or a real holding its f64; beside each the bits that the answer carries
 pub data Shown : Type 0 where
-  event : Shown
-  vector : (class : ℕ) → Shown
+  event : (bits : ℕ) → Shown
+  vector : (class bits : ℕ) → Shown
   real : Float → (bits : ℕ) → Shown
 
 abbrev pub shownBy : SignalValue → (bits : ℕ) → Shown
-shownBy shown.Event b = event
-shownBy (shown.BitVec c) b = vector (classNumber c)
+shownBy shown.Event b = event b
+shownBy (shown.BitVec c) b = vector (classNumber c) b
 shownBy (shown.Real f) b = real f b
 
 abbrev pub entryReply : declared.Entry → Shown
 entryReply e = shownBy (e .value) (e .bits)
 
--- the class is the value's own
+-- the class is the value's own; the bits are 0 but for a real
 abbrev pub shownAs : Content → Shown
-shownAs happened = event
-shownAs (symbols s) = vector (classOfAll s)
+shownAs happened = event 0
+shownAs (symbols s) = vector (classOfAll s) 0
 shownAs (bits b) = real (ofBits binary64 b) b
 
 -- ---- the cursor: 11, 4, 9

@@ -1,0 +1,9 @@
+pub mod LengthLaws
+pub mod PartLaws
+pub mod ReadThere
+pub mod PutLaws
+pub mod SameLaws
+pub mod AnswerLaws
+pub mod AnswerTrip
+pub mod EntriesLaws
+pub mod Cases

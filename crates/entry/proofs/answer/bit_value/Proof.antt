@@ -1,0 +1,40 @@
+-- A symbol is at most 8.
+use Rattle.entry.proofs.AnswerLaws.{bit-over, bit-shown}
+use borrow.Author.Needs.{needs}
+use Rattle.entry.proofs.answer.bit_value.Statement.{statement}
+use Rattle.entry.proofs.answer.bit_value.Tie as tie
+
+returns : tie.Need-returns
+returns c =
+    let p = c .before .before in
+    let a = p .args in
+    bit-over (a .symbol) (a .out .now) (c .if1 .taken)
+
+slice-write-out : tie.Need-slice-write-out
+slice-write-out c = search needs
+
+from-bit-requires : tie.Need-from-bit-requires
+from-bit-requires c κs = search needs
+
+symbols-value-requires : tie.Need-symbols-value-requires
+symbols-value-requires c κs = search needs
+
+same-length : tie.Need-same-length
+same-length c = search needs
+
+returns-2 : tie.Need-returns-2
+returns-2 c =
+    let p = c .before .before .before .before in
+    let a = p .args in
+    bit-shown (a .symbol) (a .out .now) _ _ (c .before .before .if1 .left) (c .before .from-bit .ensures) (c .symbols-value .ensures)
+
+pub bit-value-spec : {M : Type 1} → statement M
+bit-value-spec =
+    tie.close
+    (tie.spec
+    returns
+    slice-write-out
+    from-bit-requires
+    symbols-value-requires
+    same-length
+    returns-2)
