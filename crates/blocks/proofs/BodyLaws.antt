@@ -1,0 +1,184 @@
+-- Times and parts of a block, by the code's tests.
+-- Assumes nothing.
+use Prim.Native.Nat.{ℕ, zero, suc, _+_, _-_, _*_, _≤_, _<_}
+use mathlib.Core.Path.{_≡_, refl, sym, ap, _∙_}
+use mathlib.Core.Bool.{Bool, true, false}
+use mathlib.Core.List.{List, [], _∷_}
+use mathlib.Core.Option.{Option, some, none}
+use native.Mathlib.Omega.{arith}
+use native.Mathlib.Decide.{decLt}
+use borrow.Author.Tests.{ltb-true}
+use lib.Dec.{ltb}
+use lib.ListN.{length, take, drop, length-append, length-drop}
+use Rattle.lists.specs.Bytes.{Bytes}
+use Rattle.lists.specs.Choice.{pick}
+use Rattle.lists.specs.Got.{Got, bad, got}
+use Rattle.lists.proofs.BytesLaws.{drop-bytes}
+use Rattle.signal.specs.declared.kind.SignalEncoding.{SignalEncoding}
+use Rattle.stream.specs.Entries.{Entry}
+use Rattle.image.specs.Block.{Part, Block, block}
+use Rattle.form.specs.Form.{andThen, gotIf, ifYes, pair, via, each}
+use Rattle.form.specs.Decide.{both}
+use Rattle.form.proofs.FormLaws.{each-laws}
+use Rattle.codec.specs.Layout.{Laid, ill, laid, without, starting, lengths, dataSize, Layout, layout}
+use Rattle.codec.specs.Valid.{begins?, rising?, firstIndex}
+use Rattle.codec.specs.Walk.{walkPart, walkTimes}
+use Rattle.codec.proofs.WalkBlock.{walk-part-laws}
+use Rattle.reading.specs.Decided.{isYes, uints}
+use Rattle.reading.proofs.PlaceLaws.{uints-at, uints-short}
+use Rattle.parts.specs.Parts as found
+use Rattle.parts.specs.Parts.{Parts, parts, partsFrom}
+use Rattle.parts.proofs.PartsLaws.{ofGot, checked, parts-are}
+use Rattle.blocks.proofs.FrontLaws.{not-first, laidBody}
+
+abbrev OPart : Type 0
+OPart = Option (Part (List Entry))
+
+abbrev Signals : Type 0
+Signals = List (SignalEncoding × ℕ)
+
+-- the parts take up as many bytes as their lengths say
+part-size : (n i : ℕ) (k : SignalEncoding × ℕ) (m : ℕ) (p : OPart) → walkPart n i k (some m) .Ok p → length (walkPart n i k (some m) .put p) ≡ suc m
+part-size n i k m p o = ap suc (o .1 .0 .1)
+
+parts-size : (n i : ℕ) (ks : Signals) (ls : List (Option ℕ)) (ps : List OPart) → each (walkPart n i) ks ls .Ok ps → length (each (walkPart n i) ks ls .put ps) ≡ dataSize ls
+unfolding each dataSize
+parts-size n i [] [] ps o = refl
+parts-size n i [] (l ∷ ls) ps o = absurd o
+parts-size n i (k ∷ ks) [] ps o = absurd o
+parts-size n i (k ∷ ks) (l ∷ ls) [] o = absurd o
+parts-size n i (k ∷ ks) (none ∷ ls) (p ∷ ps) o = parts-size n i ks ls ps (o .1)
+parts-size n i (k ∷ ks) (some m ∷ ls) (p ∷ ps) o =
+    let e = part-size n i k m p (o .0) in
+    let f = parts-size n i ks ls ps (o .1) in
+    omega (arith, length-append (walkPart n i k (some m) .put p) (each (walkPart n i) ks ls .put ps))
+
+-- lengths add up to the data
+no-laid : {B : Type 0} {a : ℕ} {l : List (Option ℕ)} → ill ≡ laid a l → B
+no-laid e = let z : _≡_ {A = ℕ} 0 1 = cc in absurd (omega arith)
+
+sum-eq : (a b m : ℕ) (l k : List (Option ℕ)) → laid b k ≡ laid a l → b + dataSize k ≡ m → a + dataSize l ≡ m
+sum-eq a b m l k e h = let p : b ≡ a = cc in let q : k ≡ l = cc in rw (← p, ← q) h
+
+data-none : (l : List (Option ℕ)) → dataSize (none ∷ l) ≡ dataSize l
+unfolding dataSize
+data-none l = refl
+
+data-some : (m : ℕ) (l : List (Option ℕ)) → dataSize (some m ∷ l) ≡ suc m + dataSize l
+unfolding dataSize
+data-some m l = refl
+
+data-nil : dataSize [] ≡ 0
+unfolding dataSize
+data-nil = refl
+
+sum-is : (m : ℕ) (os : List ℕ) (a : ℕ) (l : List (Option ℕ)) → lengths m os ≡ laid a l → a + dataSize l ≡ m
+unfolding lengths
+sum-is m [] a l e = sum-eq a m m l [] e (omega (arith, data-nil))
+sum-is m (zero ∷ os) a l e = by (lengths m os) refl e (λ b k q. sum-is m os b k q)
+  where
+    by : (L : Laid) → lengths m os ≡ L → without L ≡ laid a l → ((b : ℕ) (k : List (Option ℕ)) → lengths m os ≡ laid b k → b + dataSize k ≡ m) → a + dataSize l ≡ m
+    by ill q e f = no-laid e
+    by (laid b k) q e f = let h = f b k q in sum-eq a b m l (none ∷ k) e (omega (arith, data-none k))
+sum-is m (suc o ∷ os) a l e = by (lengths m os) refl e (λ b k q. sum-is m os b k q)
+  where
+    by-place : (b : ℕ) (k : List (Option ℕ)) (t : Bool) → ltb o b ≡ t → pick t (laid o (some (b - suc o) ∷ k)) ill ≡ laid a l → b + dataSize k ≡ m → a + dataSize l ≡ m
+    by-place b k false t e h = no-laid e
+    by-place b k true t e h = let g = ltb-true o b t in sum-eq a o m l (some (b - suc o) ∷ k) e (omega (arith, data-some (b - suc o) k))
+
+    by : (L : Laid) → lengths m os ≡ L → starting o L ≡ laid a l → ((b : ℕ) (k : List (Option ℕ)) → lengths m os ≡ laid b k → b + dataSize k ≡ m) → a + dataSize l ≡ m
+    by ill q e f = no-laid e
+    by (laid b k) q e f = by-place b k (ltb o b) refl e (f b k q)
+
+-- no parts without room for them
+each-short : (n i : ℕ) (ks : Signals) (l : List (Option ℕ)) (d : List ℕ) → Bytes d → length d < dataSize l → each (walkPart n i) ks l .get d ≡ bad
+each-short n i ks l d y h = by (each (walkPart n i) ks l .get d) refl
+  where
+    by : (g : Got (List OPart)) → each (walkPart n i) ks l .get d ≡ g → g ≡ bad
+    by bad e = refl
+    by (got ps r) e =
+        let w = each-laws (walkPart n i) (walk-part-laws n i) ks l .back d ps r y e in
+        absurd (omega (arith, ap length (w .form), length-append (each (walkPart n i) ks l .put ps) r, parts-size n i ks l ps (w .ok)))
+
+-- ---- the body
+
+abbrev blockGot : List ℕ → Got (List OPart) → Got (Block (List Entry))
+blockGot ts bad = bad
+blockGot ts (got ps r) = got (block ts ps) r
+
+-- parts that begin at 0 make a block
+abbrev pub finish : List ℕ → Parts → Got (Block (List Entry))
+finish ts found.ill = bad
+finish ts (parts zero ps r) = got (block ts ps) r
+finish ts (parts (suc e) ps r) = bad
+
+module _ (end : Option ℕ) (ks : Signals) (s : List ℕ) (at n : ℕ) where
+  abbrev pub body : Layout → List ℕ → Got (Block (List Entry))
+  body l r = via (pair (walkTimes end (l .count)) (each (walkPart (l .count) (firstIndex end)) ks (l .lens))) (λ x. some (block (x .0) (x .1))) (λ b. (b .times, b .parts)) .get r
+
+  abbrev pub Yes : Bool
+  Yes = isYes (both (begins? end (uints 8 n s at)) (rising? (uints 8 n s at)))
+
+  by-times : {P : Type 0} (D : Dec P) (t r : List ℕ) (f : List ℕ → Got (List OPart))
+      → andThen (andThen {B = List ℕ × List OPart} (gotIf (ifYes D t) r) (λ t r. andThen {B = List ℕ × List OPart} (f r) (λ ps q. got (t, ps) q))) (λ x q. gotIf (some (block (x .0) (x .1))) q) ≡ pick (isYes D) (blockGot t (f r)) bad
+  by-times (no p) t r f = refl
+  by-times (yes p) t r f = go (f r)
+    where
+      go : (g : Got (List OPart)) → andThen (andThen {B = List ℕ × List OPart} g (λ ps q. got (t, ps) q)) (λ x q. gotIf (some (block (x .0) (x .1))) q) ≡ blockGot t g
+      go bad = refl
+      go (got ps q) = refl
+
+  body-got : at + 8 * n ≤ length s → (l : List (Option ℕ))
+      → body (layout n l) (drop at s) ≡ pick Yes (blockGot (uints 8 n s at) (each (walkPart n (firstIndex end)) ks l .get (drop (at + 8 * n) s))) bad
+  body-got h l =
+      ap (λ (g : Got (List ℕ)). andThen (andThen {B = List ℕ × List OPart} (andThen g (λ x r. gotIf (ifYes (both (begins? end x) (rising? x)) x) r)) (λ t r. andThen {B = List ℕ × List OPart} (each (walkPart n (firstIndex end)) ks l .get r) (λ ps q. got (t, ps) q)))
+      (λ x q. gotIf (some (block (x .0) (x .1))) q)) (uints-at 8 n s at h)
+      ∙ by-times (both (begins? end (uints 8 n s at)) (rising? (uints 8 n s at))) (uints 8 n s at) (drop (at + 8 * n) s) (λ r. each (walkPart n (firstIndex end)) ks l .get r)
+
+  body-short : at ≤ length s → length s < at + 8 * n → (l : List (Option ℕ)) → body (layout n l) (drop at s) ≡ bad
+  body-short j h l =
+      ap (λ (g : Got (List ℕ)). andThen (andThen {B = List ℕ × List OPart} (andThen g (λ x r. gotIf (ifYes (both (begins? end x) (rising? x)) x) r)) (λ t r. andThen {B = List ℕ × List OPart} (each (walkPart n (firstIndex end)) ks l .get r) (λ ps q. got (t, ps) q)))
+      (λ x q. gotIf (some (block (x .0) (x .1))) q)) (uints-short 8 n s at j h)
+
+  none-yes : (t : Bool) → bad ≡ pick {A = Got (Block (List Entry))} t bad bad
+  none-yes true = refl
+  none-yes false = refl
+
+  finish-got : (t : List ℕ) (g : Got (List OPart)) → blockGot t g ≡ finish t (ofGot 0 g)
+  finish-got t bad = refl
+  finish-got t (got ps r) = refl
+
+  finish-bad : (t : List ℕ) (a : ℕ) (g : Got (List OPart)) → bad ≡ finish t (ofGot (suc a) g)
+  finish-bad t a bad = refl
+  finish-bad t a (got ps r) = refl
+
+  laid-finish : at + 8 * n ≤ length s → (L : Laid)
+      → laidBody n body (drop at s) L ≡ pick Yes (finish (uints 8 n s at) (checked (drop (at + 8 * n) s) n (firstIndex end) ks L)) bad
+  laid-finish h ill = none-yes Yes
+  laid-finish h (laid zero l) =
+      body-got h l ∙ ap (λ (g : Got (Block (List Entry))). pick Yes g bad) (finish-got (uints 8 n s at) (each (walkPart n (firstIndex end)) ks l .get (drop (at + 8 * n) s)))
+  laid-finish h (laid (suc a) l) =
+      ap (λ (t : Bool). pick t (body (layout n l) (drop at s)) bad) (not-first a) ∙ none-yes Yes ∙ ap (λ (g : Got (Block (List Entry))). pick Yes g bad) (finish-bad (uints 8 n s at) a (each (walkPart n (firstIndex end)) ks l .get (drop (suc a) (drop (at + 8 * n) s))))
+
+  -- with room for m bytes of data
+  pub body-is : (m : ℕ) (os : List ℕ) → length ks ≡ length os → at + 8 * n + m ≤ length s
+      → laidBody n body (drop at s) (lengths m os) ≡ pick Yes (finish (uints 8 n s at) (partsFrom (drop (at + 8 * n) s) m n (firstIndex end) ks os)) bad
+  body-is m os e h =
+      laid-finish (omega arith) (lengths m os)
+      ∙ ap (λ (x : Parts). pick Yes (finish (uints 8 n s at) x) bad) (sym (parts-are (drop (at + 8 * n) s) m n (firstIndex end) (omega (arith, length-drop (at + 8 * n) s)) ks os e))
+
+  -- without it
+  pub body-none : (m : ℕ) (os : List ℕ) → Bytes s → at ≤ length s → length s < at + 8 * n + m → laidBody n body (drop at s) (lengths m os) ≡ bad
+  body-none m os y j h = by (lengths m os) refl
+    where
+      short : (l : List (Option ℕ)) → dataSize l ≡ m → Dec (length s < at + 8 * n) → body (layout n l) (drop at s) ≡ bad
+      short l e (yes q) = body-short j q l
+      short l e (no q) =
+          body-got (omega arith) l
+          ∙ ap (λ (g : Got (List OPart)). pick Yes (blockGot (uints 8 n s at) g) bad) (each-short n (firstIndex end) ks l (drop (at + 8 * n) s) (drop-bytes (at + 8 * n) s y) (omega (arith, length-drop (at + 8 * n) s)))
+          ∙ sym (none-yes Yes)
+
+      by : (L : Laid) → lengths m os ≡ L → laidBody n body (drop at s) L ≡ bad
+      by ill e = refl
+      by (laid zero l) e = short l (let q = sum-is m os 0 l e in omega arith) (decLt (length s) (at + 8 * n))
+      by (laid (suc a) l) e = ap (λ (t : Bool). pick t (body (layout n l) (drop at s)) bad) (not-first a)

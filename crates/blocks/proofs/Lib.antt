@@ -1,0 +1,4 @@
+pub mod FrontLaws
+pub mod BodyLaws
+pub mod BlockLaws
+pub mod TestLaws

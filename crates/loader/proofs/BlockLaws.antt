@@ -1,0 +1,194 @@
+-- What loading finds in a block of an accepted image.
+-- Assumes nothing.
+use Prim.Native.Nat.{ℕ, zero, suc, _+_, _-_, _*_, _≤_, _<_}
+use mathlib.Core.Path.{_≡_, refl, sym, ap, _∙_, subst}
+use mathlib.Core.Bool.{Bool}
+use mathlib.Core.List.{List, [], _∷_, _++_}
+use mathlib.Core.Option.{Option, some, none}
+use native.Mathlib.Omega.{arith}
+use lib.ListN.{length, getD, take, drop, length-append, length-take, length-drop, take-append-drop}
+use lib.Seq.{length-take-le}
+use Rattle.lists.specs.Bytes.{Bytes}
+use Rattle.lists.specs.Last.{lastOr}
+use Rattle.signal.specs.declared.kind.SignalEncoding.{SignalEncoding}
+use Rattle.signal.specs.declared.kind.SignalEncoding.the-variants.{Absent}
+use Rattle.signal.specs.declared.decode.ChangeValue.{ChangeValue}
+use Rattle.stream.specs.declared.read.ReadChange.the-variants as read
+use Rattle.stream.specs.Answer.{changeAt}
+use Rattle.stream.specs.Entries.{Entry, streamBytes}
+use Rattle.image.specs.Block.{Part, Block, block, dataOf, partBytes}
+use Rattle.image.specs.Head.{imageLimit}
+use Rattle.image.specs.Image.{Image, streamedParts, streamedPart}
+use Rattle.codec.specs.Valid.{EntriesFit, OptionFits, PartsFit, topsAfter, firstIndex, Filled, BlockFits, BlocksFit, Valid}
+use Rattle.codec.proofs.Growth.{parts-count}
+use Rattle.codec.proofs.Trip.{Means}
+use Rattle.loaded.specs.Opener.{kindAt, blockAt, partAt, streamIn}
+use Rattle.loaded.specs.Loading.{entriesIn, topIn}
+use Rattle.walk.specs.Walk.{Opened, imageIn, blockPlace, BlockHere, PartHere}
+use Rattle.walk.proofs.HeadLaws.{means, head-in}
+use Rattle.walk.proofs.BlockLaws.{here, next-size}
+use Rattle.loader.specs.Output.{Output, allTaken, Room, LastReads, outputAs}
+use Rattle.loader.specs.Blocks.{baseOf, changesIn, topOf}
+use Rattle.loader.specs.declared.changes.Loading.{Loading}
+use Rattle.loader.proofs.StreamLaws.{Ahead, Turn, turn, not-bad, Going, gone}
+
+pub base-later : (n t : ℕ) → (n ≡ 0 → ⊥) → t - 1 ≡ baseOf n t
+base-later zero t h = absurd (h refl)
+base-later (suc n) t h = refl
+
+pub base-small : (n t : ℕ) → baseOf n t ≤ t
+base-small zero t = omega arith
+base-small (suc n) t = omega arith
+
+-- ---- a block of a valid image
+
+-- the block fits after those before it
+pub record Fitting (limit : ℕ) (ks : List SignalEncoding) (y : Block (List Entry)) : Type 0 where
+  pub end : Option ℕ
+  pub tops : List ℕ
+  pub follow : ℕ
+  pub fits : BlockFits limit ks end tops y follow
+
+block-fits : (limit : ℕ) (ks : List SignalEncoding) (end : Option ℕ) (tops : List ℕ) (bs : List (Block (List Entry))) (n : ℕ) → BlocksFit limit ks end tops bs
+    → n < length bs → Fitting limit ks (getD bs n (block [] []))
+block-fits limit ks end tops [] n f h = absurd (omega arith)
+block-fits limit ks end tops (y ∷ bs) zero f h = record { end = end; tops = tops; follow = length bs; fits = f .0 }
+block-fits limit ks end tops (y ∷ bs) (suc n) f h = block-fits limit ks _ _ bs n (f .1) (omega arith)
+
+filled-most : (limit n follow : ℕ) → Filled limit n follow → n ≤ limit
+filled-most limit n zero f = f
+filled-most limit n (suc follow) f = omega arith
+
+pub part-fits : (n i : ℕ) (ks : List SignalEncoding) (tops : List ℕ) (ps : List (Option (Part (List Entry)))) (g : ℕ) → PartsFit n i ks tops ps
+    → (before : ℕ) × OptionFits (getD ks g Absent) n i before (getD ps g none)
+part-fits n i [] tops [] g f = (0, tt)
+part-fits n i [] tops (p ∷ ps) g f = absurd f
+part-fits n i (k ∷ ks) tops [] g f = absurd f
+part-fits n i (k ∷ ks) tops (p ∷ ps) zero f = (getD tops 0 0, f .0)
+part-fits n i (k ∷ ks) tops (p ∷ ps) (suc g) f = part-fits n i ks (drop 1 tops) ps g (f .1)
+
+pub entries-fit : (k : SignalEncoding) (n i before : ℕ) (p : Option (Part (List Entry))) → OptionFits k n i before p → EntriesFit k n i (topIn p) (entriesIn p)
+entries-fit k n i before none f = tt
+entries-fit k n i before (some p) f = f .entries
+
+-- ---- where the stream stands
+
+-- it is no longer than the block's data
+stream-data : (ks : List SignalEncoding) (ps : List (Option (Part (List Entry)))) (g : ℕ) → length ps ≡ length ks
+    → length (streamIn (getD ks g Absent) (getD ps g none)) ≤ length (dataOf (streamedParts ks ps))
+unfolding dataOf streamedParts
+stream-data [] [] g e = omega arith
+stream-data [] (p ∷ ps) g e = absurd (omega arith)
+stream-data (k ∷ ks) [] g e = absurd (omega arith)
+stream-data (k ∷ ks) (none ∷ ps) zero e = omega arith
+stream-data (k ∷ ks) (some p ∷ ps) zero e = omega (arith, length-append (p .top ∷ streamBytes k 0 (p .stream)) (dataOf (streamedParts ks ps)))
+stream-data (k ∷ ks) (p ∷ ps) (suc g) e = omega (arith, length-append (partBytes (streamedPart k p)) (dataOf (streamedParts ks ps)), stream-data ks ps g (omega arith))
+
+stream-in : (k : SignalEncoding) (p : Option (Part (List Entry))) → streamIn k p ≡ streamBytes k 0 (entriesIn p)
+unfolding streamBytes
+stream-in k none = refl
+stream-in k (some p) = refl
+
+-- before the first change of a signal in a block
+pub record Begins (b : List ℕ) (number at g from to : ℕ) : Type 0 where
+  pub ahead : Ahead (kindAt (imageIn b) g) b (length (blockAt (imageIn b) number .times)) (topIn (partAt (blockAt (imageIn b) number) g)) from to
+  pub prev : ahead .prev ≡ 0
+  pub entries : ahead .entries ≡ entriesIn (partAt (blockAt (imageIn b) number) g)
+  pub few : length (blockAt (imageIn b) number .times) ≤ 65535
+  pub place : at + length (blockAt (imageIn b) number .times) + (to - from) ≤ blockPlace (imageIn b) (suc number)
+  pub end : blockPlace (imageIn b) (suc number) ≤ imageLimit
+  pub ordered : from ≤ to
+
+pub begins : (b : List ℕ) (number at g from to top : ℕ) → Bytes b → Opened b → BlockHere number at b
+    → PartHere from to top (kindAt (imageIn b) g) (partAt (blockAt (imageIn b) number) g) b → Begins b number at g from to
+begins b number at g from to top y o h p =
+    let x = imageIn b in
+    let ks = x .kinds in
+    let n = blockAt x number in
+    let k = kindAt x g in
+    let m = means b y o in
+    let q = partAt n g in
+    let f : Fitting (x .limit) ks n = block-fits (x .limit) ks none [] (x .blocks) number (m .valid .blocks) (h .exists) in
+    let pf = part-fits (length (n .times)) (firstIndex (f .end)) ks (f .tops) (n .parts) g (f .fits .parts) in
+    let s : take (to - from) (drop from b) ≡ streamBytes k 0 (entriesIn q) = p .stream ∙ stream-in k q in
+    let ld = length-drop from b in
+    let lt : length (take (to - from) (drop from b)) ≡ to - from = length-take-le (to - from) (drop from b) (omega (arith, p .ordered, p .inside)) in
+    let ls : length (streamBytes k 0 (entriesIn q)) ≡ to - from = sym (ap length s) ∙ lt in
+    let few : length (n .times) ≤ 65535 = omega (arith, filled-most (x .limit) (length (n .times)) (f .follow) (f .fits .filled), m .valid .high) in
+    let size : length (streamIn k q) ≡ to - from = sym (ap length (p .stream)) ∙ lt in
+    let sd = stream-data ks (n .parts) g (parts-count _ _ ks (f .tops) (n .parts) (f .fits .parts)) in
+    let ns = next-size x number (h .exists) in
+    let pl = h .place in
+    let i = here number at b y o h .most in
+    let hm = head-in b y o .most in
+    record {
+      ahead = record {
+        prev = 0;
+        least = firstIndex (f .end);
+        entries = entriesIn q;
+        tail = drop (to - from) (drop from b);
+        bytes = sym (take-append-drop (to - from) (drop from b)) ∙ ap (λ (l : List ℕ). l ++ drop (to - from) (drop from b)) s;
+        size = omega (arith, p .ordered);
+        inside = p .inside;
+        fits = entries-fit k _ _ (pf .0) q (pf .1);
+        order = omega arith;
+      };
+      prev = refl;
+      entries = refl;
+      few = few;
+      place = omega arith;
+      end = omega arith;
+      ordered = p .ordered;
+    }
+
+-- ---- the loop over its changes
+
+-- after raising the top class
+pub record Same (s r : Loading) : Type 0 where
+  pub count : r .count ≡ s .count
+  pub used : r .used ≡ s .used
+  pub last : r .last ≡ s .last
+
+same-output : (k : SignalEncoding) (b : List ℕ) (s r : Loading) (index bytes : List ℕ) → Same s r → outputAs k b r index bytes ≡ outputAs k b s index bytes
+same-output k b s r index bytes e = rw (e .count, e .used, e .last) refl
+
+abbrev pub BlockGoing : (k : SignalEncoding) (b : List ℕ) (number g c : ℕ) (w : Bool) (times from to : ℕ) (r : Loading) (index bytes : List ℕ) (p i : ℕ) (s : Loading) (index' bytes' : List ℕ) → Type 0
+BlockGoing k b number g c w times from to r index bytes p i s index' bytes' =
+    Going k b (length (blockAt (imageIn b) number .times)) (topOf (imageIn b) number g) c w (baseOf number times) from to
+    (outputAs k b r index bytes) (changesIn (imageIn b) number g times) p i s index' bytes'
+
+module _ (k : SignalEncoding) (b : List ℕ) (number at g c : ℕ) (w : Bool) (times from to : ℕ) (s r : Loading) (index bytes : List ℕ)
+    (e : k ≡ kindAt (imageIn b) g) (m : Begins b number at g from to) (q : Same s r) where
+  pub going-first : (i : ℕ) → LastReads (kindAt (imageIn b) g) b (s .last) → i ≡ baseOf number times → BlockGoing k b number g c w times from to r index bytes from i r index bytes
+  going-first i l f =
+      rw e (record {
+        ahead = m .ahead;
+        at = omega (arith, m .prev);
+        reads = rw (q .last) l;
+        same = rw (m .entries) refl;
+        start = omega arith;
+        few = omega arith;
+        index-size = refl;
+        bytes-size = refl;
+      })
+
+  pub room-there : (i n : ℕ) → Room w (allTaken (kindAt (imageIn b) g) c w (outputAs (kindAt (imageIn b) g) b s index bytes) (changesIn (imageIn b) number g times)) i n
+      → Room w (allTaken k c w (outputAs k b r index bytes) (changesIn (imageIn b) number g times)) i n
+  room-there i n h = rw (same-output k b s r index bytes q, e) h
+
+  pub block-done : (p i : ℕ) (t : Loading) (index' bytes' : List ℕ) → BlockGoing k b number g c w times from to r index bytes p i t index' bytes' → to ≤ p → s .count ≤ at
+      → LastReads (kindAt (imageIn b) g) b (t .last) × (t .count ≤ blockPlace (imageIn b) (suc number))
+      × (outputAs (kindAt (imageIn b) g) b t index' bytes' ≡ allTaken (kindAt (imageIn b) g) c w (outputAs (kindAt (imageIn b) g) b s index bytes) (changesIn (imageIn b) number g times))
+  block-done p i t index' bytes' d h few =
+      let x : outputAs k b t index' bytes' ≡ allTaken k c w (outputAs k b r index bytes) (changesIn (imageIn b) number g times) = gone k b _ _ c w _ from to _ _ p i t index' bytes' d h in
+      let y = rw (same-output k b s r index bytes q, e) at x in
+      let z : p ≤ to = omega (arith, d .ahead .size) in
+      (rw e at (d .reads), omega (arith, d .few, d .start, q .count, m .place, m .ordered), y)
+
+  -- one change of it
+  pub block-turn : (p i : ℕ) (t : Loading) (index' bytes' : List ℕ) (d : ℕ) (v : ChangeValue) (next : ℕ) → (y : Bytes b) → (h : p < to) → (x : BlockGoing k b number g c w times from to r index bytes p i t index' bytes')
+      → changeAt k b p ≡ read.Change d v next → Turn k b (length (blockAt (imageIn b) number .times)) (topOf (imageIn b) number g) p to (x .ahead) d v next
+  block-turn p i t index' bytes' d v next y h x f = turn k b _ _ p to y (m .few) h (x .ahead) d v next f
+
+  pub block-not-bad : (p i : ℕ) (t : Loading) (index' bytes' : List ℕ) → Bytes b → p < to → BlockGoing k b number g c w times from to r index bytes p i t index' bytes' → changeAt k b p ≡ read.Bad → ⊥
+  block-not-bad p i t index' bytes' y h x f = not-bad k b _ _ p to y (m .few) h (x .ahead) f

@@ -1,0 +1,82 @@
+-- What loading has put out: how many entries are kept, how many bytes they took, the content of the last one, and the outputs. And what one
+-- change more makes of it, and a list of them.
+-- Laws (proofs/OutputLaws): a list of changes makes of it what `pushed` makes of the kept entries.
+-- Assumes nothing.
+use Prim.Native.Nat.{ℕ, suc, _+_, _≤_}
+use mathlib.Core.Path.{_≡_}
+use mathlib.Core.Bool.{Bool, true, false}
+use mathlib.Core.List.{List, [], _∷_, map}
+use mathlib.Core.Option.{Option, some, none}
+use lib.ListN.{length, set}
+use lib.Seq.{sets}
+use Rattle.lists.specs.Choice.{pick}
+use Rattle.signal.specs.declared.kind.SignalEncoding.{SignalEncoding}
+use Rattle.signal.specs.Content.{Content}
+use Rattle.stream.specs.Entries.{Entry, repeats}
+use Rattle.loaded.specs.EntryBytes.{entryBytes, entriesBytes}
+use Rattle.loaded.specs.Reader.{indexIn}
+use Rattle.entry.specs.Read.{contentRead, Reads}
+use Rattle.loader.specs.declared.changes.LastKept.{LastKept}
+use Rattle.loader.specs.declared.changes.LastKept.the-variants as last
+use Rattle.loader.specs.declared.changes.Loading.{Loading}
+
+pub record Output : Type 0 where
+  pub count : ℕ
+  pub used : ℕ
+  pub last : Option Content
+  pub index : List ℕ
+  pub bytes : List ℕ
+
+abbrev pub output : (count used : ℕ) → Option Content → (index bytes : List ℕ) → Output
+output n u l i b = record { count = n; used = u; last = l; index = i; bytes = b }
+
+-- ---- one change more
+
+-- a content repeats that of the last kept entry
+abbrev pub repeatsKept : Option Content → Content → Bool
+repeatsKept none c = false
+repeatsKept (some a) c = repeats a c
+
+-- kept: counted, and where outputs are written, its index and its bytes stored
+abbrev pub kept : SignalEncoding → (C : ℕ) → (write : Bool) → Output → (index : ℕ) → Content → Output
+kept k c false o i a = output (suc (o .count)) (o .used) (some a) (o .index) (o .bytes)
+kept k c true o i a =
+    output (suc (o .count)) (o .used + length (entryBytes k c a)) (some a) (set (o .index) (o .count) i) (sets (o .bytes) (o .used) (entryBytes k c a))
+
+-- a repeat is dropped
+unfoldable pub taken : SignalEncoding → (C : ℕ) → (write : Bool) → Output → (index : ℕ) → Content → Output
+taken k c w o i a = pick (repeatsKept (o .last) a) o (kept k c w o i a)
+
+unfoldable pub allTaken : SignalEncoding → (C : ℕ) → (write : Bool) → Output → List Entry → Output
+allTaken k c w o [] = o
+allTaken k c w o (e ∷ es) = allTaken k c w (taken k c w o (e .index) (e .content)) es
+
+-- an output is within the lent memory, if that is written
+abbrev pub Room : (write : Bool) → Output → (index bytes : ℕ) → Type 0
+Room w o i b = w ≡ true → (o .count ≤ i) × (o .used ≤ b)
+
+-- ---- what the code holds of it: the last kept change by its place in the image
+
+abbrev pub lastIn : SignalEncoding → (image : List ℕ) → LastKept → Option Content
+lastIn k b last.Nothing = none
+lastIn k b (last.Change v n) = some (contentRead k b v n)
+
+-- reading answered it
+abbrev pub LastReads : SignalEncoding → (image : List ℕ) → LastKept → Type 0
+LastReads k b last.Nothing = Unit {0}
+LastReads k b (last.Change v n) = Reads k b v n
+
+abbrev pub outputAs : SignalEncoding → (image : List ℕ) → Loading → (index bytes : List ℕ) → Output
+outputAs k b s i o = output (s .count) (s .used) (lastIn k b (s .last)) i o
+
+-- ---- all of it
+
+abbrev pub lastContent : List Entry → Option Content
+lastContent [] = none
+lastContent (e ∷ []) = some (e .content)
+lastContent (e ∷ f ∷ es) = lastContent (f ∷ es)
+
+-- the outputs, lent as index and bytes, with these entries kept
+abbrev pub holding : SignalEncoding → (C : ℕ) → (write : Bool) → (index bytes : List ℕ) → List Entry → Output
+holding k c false i b es = output (length es) 0 (lastContent es) i b
+holding k c true i b es = output (length es) (length (entriesBytes k c es)) (lastContent es) (sets i 0 (map indexIn es)) (sets b 0 (entriesBytes k c es))

@@ -1,0 +1,62 @@
+// The blocks of an accepted image, in order.
+use crate::changes::LastKept;
+use crate::changes::Loading;
+use crate::changes::first_index;
+use crate::changes::load_block;
+use value::states::States;
+use walk::block::first_block;
+use walk::block::next_block;
+use walk::block::times_in;
+use walk::head::block_count;
+ghost use mathlib.Core.Path.{_≡_};
+ghost use Prim.Native.Nat.{_≤_};
+ghost use lib.ListN.{length};
+ghost use Rattle.value.specs.Class.{classNumber};
+ghost use Rattle.image.specs.Head.{imageLimit};
+ghost use Rattle.loaded.specs.Opener.{kindAt};
+ghost use Rattle.loaded.specs.Loading.{loads};
+ghost use Rattle.walk.specs.Walk.{Opened, imageIn};
+ghost use Rattle.loader.specs.Output.{Room, outputAs, holding};
+
+// A signal's changes of all blocks, repeats dropped across them.
+pub fn load_blocks(
+    image: &[u8],
+    signal: u32,
+    class: States,
+    write: bool,
+    index: &mut [u32],
+    bytes: &mut [u8],
+) -> Loading
+    requires { ⌜ Opened (now image) × (loads signal (imageIn (now image) .blocks) .class ≤ classNumber class) × Room write (holding (kindAt (imageIn (now image)) signal) (classNumber class) write (now index) (now bytes) (loads signal (imageIn (now image) .blocks) .entries)) (length (now index)) (length (now bytes)) ⌝ }
+    ensures { λ r. ⌜ (r .top ≡ loads signal (imageIn (now (image .entry)) .blocks) .class) × (r .count ≤ imageLimit) × (outputAs (kindAt (imageIn (now (image .entry))) signal) (now (image .entry)) r (now (index .exit)) (now (bytes .exit)) ≡ holding (kindAt (imageIn (now (image .entry))) signal) (classNumber class) write (now (index .entry)) (now (bytes .entry)) (loads signal (imageIn (now (image .entry)) .blocks) .entries)) ⌝ }
+{
+    let blocks = block_count(image);
+    let mut at = first_block(image);
+    let mut number: u32 = 0;
+    let mut times: u32 = 0;
+    let last = LastKept::Nothing;
+    let mut state = Loading {
+        count: 0,
+        used: 0,
+        top: 0,
+        last,
+    };
+    while number < blocks {
+        state = load_block(
+            image,
+            number,
+            at,
+            signal,
+            class,
+            write,
+            times,
+            state,
+            index,
+            bytes,
+        );
+        times = first_index(number, times) + times_in(image, at);
+        at = next_block(image, at);
+        number += 1;
+    }
+    state
+}

@@ -1,0 +1,210 @@
+// The changes of one stream: repeats dropped, the others counted, and written where outputs are.
+use entry::put::put_entry;
+use entry::same::same_content;
+use signal::decode::ChangeValue;
+use signal::kind::SignalEncoding;
+use stream::read::ReadChange;
+use stream::read::read_change;
+use value::states::States;
+use walk::head::kind_at;
+use walk::part::part_in;
+ghost use mathlib.Core.Path.{_≡_};
+ghost use mathlib.Core.Bool.{true};
+ghost use Prim.Native.Nat.{suc, _+_, _≤_, _<_, max, _^_};
+ghost use lib.ListN.{length, set};
+ghost use lib.Seq.{sets};
+ghost use Rattle.value.specs.Class.{classNumber, classOfAll};
+ghost use Rattle.signal.specs.Content.{symbolsOf};
+ghost use Rattle.loaded.specs.EntryBytes.{entryBytes};
+ghost use Rattle.loaded.specs.Opener.{kindAt};
+ghost use Rattle.entry.specs.Read.{contentRead, Reads};
+ghost use Rattle.walk.specs.Walk.{Opened, imageIn, blockPlace, BlockHere};
+ghost use Rattle.loader.specs.Output.{Output, repeatsKept, taken, allTaken, Room, lastIn, LastReads, outputAs};
+ghost use Rattle.loader.specs.Blocks.{baseOf, changesIn, topOf};
+
+// The last kept change: its value, and the place in the image after it.
+pub enum LastKept {
+    Nothing,
+    Change(ChangeValue, usize),
+}
+
+// How many entries are kept, how many bytes of the output they took, the largest top class, the last of them.
+pub struct Loading {
+    pub count: u32,
+    pub used: usize,
+    pub top: u8,
+    pub last: LastKept,
+}
+
+fn repeats_last(
+    image: &[u8],
+    kind: SignalEncoding,
+    last: LastKept,
+    value: ChangeValue,
+    next: usize,
+) -> bool
+    requires { ⌜ LastReads kind (now image) last × Reads kind (now image) value next ⌝ }
+    ensures { λ r. ⌜ r ≡ repeatsKept (lastIn kind (now (image .entry)) last) (contentRead kind (now (image .entry)) value next) ⌝ }
+{
+    match last {
+        LastKept::Nothing => false,
+        LastKept::Change(said, end) => same_content(image, said, end, image, value, next, kind),
+    }
+}
+
+// Stores an entry's index and its bytes, and answers the place after these.
+fn write_entry(
+    image: &[u8],
+    kind: SignalEncoding,
+    class: States,
+    value: ChangeValue,
+    next: usize,
+    at: usize,
+    i: u32,
+    used: usize,
+    index: &mut [u32],
+    bytes: &mut [u8],
+) -> usize
+    requires { ⌜ Reads kind (now image) value next × (classOfAll (symbolsOf (contentRead kind (now image) value next)) ≤ classNumber class) ⌝ }
+    requires { ⌜ (at < length (now index)) × (used + length (entryBytes kind (classNumber class) (contentRead kind (now image) value next)) ≤ length (now bytes)) ⌝ }
+    ensures { λ r. ⌜ (r ≡ used + length (entryBytes kind (classNumber class) (contentRead kind (now (image .entry)) value next))) × (now (index .exit) ≡ set (now (index .entry)) at i) × (now (bytes .exit) ≡ sets (now (bytes .entry)) used (entryBytes kind (classNumber class) (contentRead kind (now (image .entry)) value next))) ⌝ }
+{
+    index[at] = i;
+    put_entry(bytes, used, image, kind, class, value, next)
+}
+
+// One change, at the index i of the combined table.
+fn take_change(
+    image: &[u8],
+    kind: SignalEncoding,
+    class: States,
+    write: bool,
+    value: ChangeValue,
+    next: usize,
+    i: u32,
+    state: Loading,
+    index: &mut [u32],
+    bytes: &mut [u8],
+) -> Loading
+    requires { ⌜ LastReads kind (now image) (state .last) × Reads kind (now image) value next × (classOfAll (symbolsOf (contentRead kind (now image) value next)) ≤ classNumber class) ⌝ }
+    requires { ⌜ (state .count + 1 < 2 ^ 32) × Room write (taken kind (classNumber class) write (outputAs kind (now image) state (now index) (now bytes)) i (contentRead kind (now image) value next)) (length (now index)) (length (now bytes)) ⌝ }
+    ensures { λ r. ⌜ LastReads kind (now (image .entry)) (r .last) × (r .top ≡ state .top) × (r .count ≤ state .count + 1) × (outputAs kind (now (image .entry)) r (now (index .exit)) (now (bytes .exit)) ≡ taken kind (classNumber class) write (outputAs kind (now (image .entry)) state (now (index .entry)) (now (bytes .entry))) i (contentRead kind (now (image .entry)) value next)) ⌝ }
+{
+    let kept = state.last;
+    if repeats_last(image, kind, kept, value, next) {
+        return state;
+    }
+    let count = state.count;
+    let used = state.used;
+    let top = state.top;
+    let last = LastKept::Change(value, next);
+    if write {
+        let used = write_entry(
+            image,
+            kind,
+            class,
+            value,
+            next,
+            count as usize,
+            i,
+            used,
+            index,
+            bytes,
+        );
+        return Loading {
+            count: count + 1,
+            used,
+            top,
+            last,
+        };
+    }
+    Loading {
+        count: count + 1,
+        used,
+        top,
+        last,
+    }
+}
+
+// The top class never falls.
+fn raised(state: Loading, top: u8) -> Loading
+    ensures { λ r. ⌜ (r .top ≡ max (state .top) top) × (r .count ≡ state .count) × (r .used ≡ state .used) × (r .last ≡ state .last) ⌝ }
+{
+    let count = state.count;
+    let used = state.used;
+    let last = state.last;
+    if top <= state.top {
+        return Loading {
+            count,
+            used,
+            top: state.top,
+            last,
+        };
+    }
+    Loading {
+        count,
+        used,
+        top,
+        last,
+    }
+}
+
+// Where the times of a block begin in the combined table: its first time is there already, unless it is the first block.
+pub fn first_index(number: u32, times: u32) -> u32
+    requires { ⌜ number ≤ times ⌝ }
+    ensures { λ r. ⌜ r ≡ baseOf number times ⌝ }
+{
+    if number == 0 {
+        return 0;
+    }
+    times - 1
+}
+
+// The changes of a signal in block number `number`, which begins at a place; so many times precede it in the combined table.
+pub fn load_block(
+    image: &[u8],
+    number: u32,
+    at: usize,
+    signal: u32,
+    class: States,
+    write: bool,
+    times: u32,
+    state: Loading,
+    index: &mut [u32],
+    bytes: &mut [u8],
+) -> Loading
+    requires { ⌜ Opened (now image) × BlockHere number at (now image) × LastReads (kindAt (imageIn (now image)) signal) (now image) (state .last) × (topOf (imageIn (now image)) number signal ≤ classNumber class) ⌝ }
+    requires { ⌜ (number ≤ times) × (times ≤ at) × (state .count ≤ at) × Room write (allTaken (kindAt (imageIn (now image)) signal) (classNumber class) write (outputAs (kindAt (imageIn (now image)) signal) (now image) state (now index) (now bytes)) (changesIn (imageIn (now image)) number signal times)) (length (now index)) (length (now bytes)) ⌝ }
+    ensures { λ r. ⌜ LastReads (kindAt (imageIn (now (image .entry))) signal) (now (image .entry)) (r .last) × (r .top ≡ max (state .top) (topOf (imageIn (now (image .entry))) number signal)) × (r .count ≤ blockPlace (imageIn (now (image .entry))) (suc number)) × (outputAs (kindAt (imageIn (now (image .entry))) signal) (now (image .entry)) r (now (index .exit)) (now (bytes .exit)) ≡ allTaken (kindAt (imageIn (now (image .entry))) signal) (classNumber class) write (outputAs (kindAt (imageIn (now (image .entry))) signal) (now (image .entry)) state (now (index .entry)) (now (bytes .entry))) (changesIn (imageIn (now (image .entry))) number signal times)) ⌝ }
+{
+    let kind = kind_at(image, signal);
+    let part = part_in(image, at, signal);
+    let to = part.to;
+    let mut p = part.from;
+    let mut i = first_index(number, times);
+    let mut state = raised(state, part.top);
+    while p < to {
+        match read_change(image, p, kind) {
+            ReadChange::Change(d, value, next) => {
+                i += d;
+                p = next;
+                state = take_change(
+                    image,
+                    kind,
+                    class,
+                    write,
+                    value,
+                    next,
+                    i,
+                    state,
+                    index,
+                    bytes,
+                );
+            }
+            ReadChange::Bad => {
+                return state;
+            }
+        }
+    }
+    state
+}

@@ -1,0 +1,5 @@
+pub mod ClearLaws
+pub mod KindLaws
+pub mod HeadLaws
+pub mod BlocksLaws
+pub mod OpenLaws

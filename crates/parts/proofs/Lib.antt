@@ -1,0 +1,4 @@
+pub mod PartLaws
+pub mod PartsLaws
+pub mod SignalLaws
+pub mod TopsLaws

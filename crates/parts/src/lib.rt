@@ -1,0 +1,138 @@
+// The parts of a block, one for each signal with changes: a class byte and a stream. Document 01, 'Block and image'.
+//
+// They are read from the last signal to the first, since a part ends where the next one begins. specs/Parts.antt says what is found so, and
+// proofs/PartsLaws.antt that it is what crate codec's `lengths` and `walkPart` find.
+use image::SignalDataOffset;
+use numbers::little_endian::get_u32;
+use reading::changes::is_stream;
+use signal::kind::SignalEncoding;
+use storage::kind_from;
+ghost use mathlib.Core.Path.{_≡_};
+ghost use Prim.Native.Nat.{_+_, _*_, _≤_, _<_};
+ghost use lib.ListN.{length, drop};
+ghost use Rattle.lists.specs.Choice.{isSome};
+ghost use Rattle.signal.specs.Kind.{topLimit};
+ghost use Rattle.reading.specs.Decided.{uints};
+ghost use Rattle.parts.specs.Parts.{partIn, onePart, signals, areParts, topRead, storeFrom};
+
+// Where the parts of the signals read so far begin, or no parts.
+pub enum PartStart {
+    From(usize),
+    Wrong,
+}
+
+// The largest top class of a kind: 0 for events and reals.
+fn top_limit(kind: SignalEncoding) -> u8
+    ensures { λ r. ⌜ r ≡ topLimit kind ⌝ }
+{
+    match kind {
+        SignalEncoding::BitVector(width) => { if width == 0 { 0 } else { 2 } }
+        SignalEncoding::Real => 0,
+        SignalEncoding::Absent => 0,
+    }
+}
+
+// Whether bytes are the part of a signal whose top class was `before`.
+fn is_part(s: &[u8], kind: SignalEncoding, before: u8, times: u32, least: u32) -> bool
+    requires { ⌜ (0 < length (now s)) × (times ≤ 65535) ⌝ }
+    ensures { λ r. ⌜ r ≡ isSome (partIn kind before times least (now (s .entry))) ⌝ }
+{
+    let top = s[0];
+    if top < before {
+        return false;
+    }
+    if top_limit(kind) < top {
+        return false;
+    }
+    is_stream(&s[1..], kind, times, least, top)
+}
+
+// A signal's part, in front of parts that begin at `from` in the data at `base`.
+fn one_part(
+    s: &[u8],
+    base: usize,
+    kind: SignalEncoding,
+    before: u8,
+    offset: SignalDataOffset,
+    from: usize,
+    times: u32,
+    least: u32,
+) -> PartStart
+    requires { ⌜ (base + from ≤ length (now s)) × (times ≤ 65535) ⌝ }
+    ensures { λ r. ⌜ r ≡ onePart (drop base (now (s .entry))) times least kind before (offset .0) from ⌝ }
+{
+    let stored = offset.0 as usize;
+    if stored == 0 {
+        return PartStart::From(from);
+    }
+    if from < stored {
+        return PartStart::Wrong;
+    }
+    let start = stored - 1;
+    if is_part(&s[base + start..base + from], kind, before, times, least) {
+        return PartStart::From(start);
+    }
+    PartStart::Wrong
+}
+
+// Whether the parts of a block are right: kinds at `kinds`, offsets at `offsets`, n bytes of data at `base`, top classes before in `tops`.
+pub fn are_parts(
+    s: &[u8],
+    kinds: usize,
+    offsets: usize,
+    base: usize,
+    n: usize,
+    count: usize,
+    tops: &[u8],
+    times: u32,
+    least: u32,
+) -> bool
+    requires { ⌜ (kinds + 4 * count ≤ length (now s)) × (offsets + 4 * count ≤ length (now s)) × (base + n ≤ length (now s)) × (count ≤ length (now tops)) × (times ≤ 65535) ⌝ }
+    ensures { λ r. ⌜ r ≡ areParts (drop base (now (s .entry))) n times least (signals count (now (s .entry)) kinds (now (tops .entry)) 0) (uints 4 count (now (s .entry)) offsets) ⌝ }
+{
+    let mut from = n;
+    let mut i = count;
+    while 0 < i {
+        i -= 1;
+        let kind = kind_from(get_u32(s, kinds + 4 * i));
+        let before = tops[i];
+        let offset = SignalDataOffset(get_u32(s, offsets + 4 * i));
+        match one_part(s, base, kind, before, offset, from, times, least) {
+            PartStart::From(start) => {
+                from = start;
+            }
+            PartStart::Wrong => {
+                return false;
+            }
+        }
+    }
+    from == 0
+}
+
+// The top class of a signal after a block: its class byte, or the one before.
+fn top_after(s: &[u8], base: usize, offset: SignalDataOffset, before: u8) -> u8
+    requires { ⌜ base ≤ length (now s) ⌝ }
+    ensures { λ r. ⌜ r ≡ topRead (drop base (now (s .entry))) before (offset .0) ⌝ }
+{
+    let stored = offset.0 as usize;
+    if stored == 0 {
+        return before;
+    }
+    if s.len() - base < stored {
+        return 0;
+    }
+    s[base + (stored - 1)]
+}
+
+// Stores the top classes that a block leaves.
+pub fn store_tops(s: &[u8], offsets: usize, base: usize, count: usize, tops: &mut [u8])
+    requires { ⌜ (offsets + 4 * count ≤ length (now s)) × (base ≤ length (now s)) × (count ≤ length (now tops)) ⌝ }
+    ensures { λ r. ⌜ now (tops .exit) ≡ storeFrom (drop base (now (s .entry))) (now (tops .entry)) 0 (uints 4 count (now (s .entry)) offsets) ⌝ }
+{
+    let mut i = 0;
+    while i < count {
+        let offset = SignalDataOffset(get_u32(s, offsets + 4 * i));
+        tops[i] = top_after(s, base, offset, tops[i]);
+        i += 1;
+    }
+}

@@ -1,0 +1,5 @@
+pub mod DecidedLaws
+pub mod PlaceLaws
+pub mod EntryLaws
+pub mod StreamLaws
+pub mod TimesLaws

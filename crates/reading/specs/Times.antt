@@ -1,0 +1,33 @@
+-- What the code answers of the times of a block: the last one.
+-- Assumes nothing.
+use Prim.Native.Nat.{ℕ, _-_}
+use mathlib.Core.Bool.{Bool}
+use mathlib.Core.List.{List, [], _∷_}
+use lib.Dec.{ltb}
+use lib.ListN.{drop}
+use Rattle.lists.specs.Choice.{pick}
+use Rattle.lists.specs.Got.{Got, bad, got}
+use Rattle.lists.specs.Last.{lastOr}
+use Rattle.codec.specs.Valid.{begins?, rising?}
+use Rattle.codec.specs.Walk.{walkTimes}
+use Rattle.reading.specs.Decided.{isYes, uints, endOf}
+use Rattle.reading.specs.declared.times.Times.{Times}
+use Rattle.reading.specs.declared.times.Times.the-variants.{Last, Wrong}
+
+abbrev pub lastOf : Got (List ℕ) → Times
+lastOf bad = Wrong
+lastOf (got ts r) = Last (lastOr 0 ts)
+
+unfoldable pub timesAt : (n : ℕ) → List ℕ → (at : ℕ) → (later : Bool) → (end : ℕ) → Times
+timesAt n s at later end = lastOf (walkTimes (endOf later end) n .get (drop at s))
+
+unfoldable pub beginsAt : (n : ℕ) → List ℕ → (at : ℕ) → (later : Bool) → (end : ℕ) → Bool
+beginsAt n s at later end = isYes (begins? (endOf later end) (uints 8 n s at))
+
+-- time by time, after a time t
+unfoldable pub riseFrom : ℕ → List ℕ → Times
+riseFrom t [] = Last t
+riseFrom t (u ∷ l) = pick (ltb t u) (riseFrom u l) Wrong
+
+unfoldable pub risingAt : (n : ℕ) → List ℕ → (at : ℕ) → Times
+risingAt n s at = pick (isYes (rising? (uints 8 n s at))) (Last (lastOr 0 (uints 8 n s at))) Wrong
