@@ -1,0 +1,44 @@
+// The calls that read an image. Document 01, 'Block and image', 'Loaded signal' and 'Turned back' (11, 4, 9).
+//
+// Any bytes may be given: no function has a `requires`. Each tests once that the opener accepts them; a caller that reads much of one image
+// tests with `open` and calls the functions of crates walk and loader, which ask for an accepted one. The contracts cite
+// loaded/specs.
+use loaded::LoadAnswer;
+use loaded::TableAnswer;
+use loader::load::load_in;
+use opener::open;
+use walk::part::stream_in;
+use walk::table::table_in;
+ghost use mathlib.Core.Path.{_≡_};
+ghost use Rattle.loaded.specs.Opener.{streamOf};
+ghost use Rattle.loaded.specs.Reader.{loadReply, loadAfter, loadOf, tableReply, tableAfter, tableOf};
+
+// Loads a signal: its entries' indices in the combined table and their bytes. 11, 4, 9.
+pub fn load(image: &[u8], signal: u32, index: &mut [u32], bytes: &mut [u8]) -> LoadAnswer
+    ensures { λ r. ⌜ loadAfter (loadReply r) (now (index .exit)) (now (bytes .exit)) ≡ loadOf (now (image .entry)) signal (now (index .entry)) (now (bytes .entry)) ⌝ }
+{
+    if !open(image) {
+        return LoadAnswer::Refused(11);
+    }
+    load_in(image, signal, index, bytes)
+}
+
+// The combined table of all blocks' times. 11, 9.
+pub fn table(image: &[u8], out: &mut [u64]) -> TableAnswer
+    ensures { λ r. ⌜ tableAfter (tableReply r) (now (out .exit)) ≡ tableOf (now (image .entry)) (now (out .entry)) ⌝ }
+{
+    if !open(image) {
+        return TableAnswer::Refused(11);
+    }
+    table_in(image, out)
+}
+
+// The stream of a signal in a block, as the part of the image after its class byte; empty where there is none.
+pub fn stream(image: &[u8], block: u32, signal: u32) -> &[u8]
+    ensures { λ r. ⌜ now r ≡ streamOf (now (image .entry)) block signal ⌝ }
+{
+    if !open(image) {
+        return &image[0..0];
+    }
+    stream_in(image, block, signal)
+}
