@@ -1,8 +1,10 @@
 // The calls that read an image. Document 01, 'Block and image', 'Loaded signal' and 'Turned back' (11, 4, 9).
 //
 // Any bytes may be given: no function has a `requires`. Each tests once that the opener accepts them; a caller that reads much of one image
-// tests with `open` and calls the functions of crates walk and loader, which ask for an accepted one. The contracts cite
+// tests with `open` and calls the functions of crates walk, loader and cursor, which ask for an accepted one. The contracts cite
 // loaded/specs.
+use cursor::cursor_in;
+use loaded::CursorAnswer;
 use loaded::LoadAnswer;
 use loaded::TableAnswer;
 use loader::load::load_in;
@@ -11,7 +13,7 @@ use walk::part::stream_in;
 use walk::table::table_in;
 ghost use mathlib.Core.Path.{_≡_};
 ghost use Rattle.loaded.specs.Opener.{streamOf};
-ghost use Rattle.loaded.specs.Reader.{loadReply, loadAfter, loadOf, tableReply, tableAfter, tableOf};
+ghost use Rattle.loaded.specs.Reader.{loadReply, loadAfter, loadOf, tableReply, tableAfter, tableOf, cursorReply, cursorAfter, cursorOf};
 
 // Loads a signal: its entries' indices in the combined table and their bytes. 11, 4, 9.
 pub fn load(image: &[u8], signal: u32, index: &mut [u32], bytes: &mut [u8]) -> LoadAnswer
@@ -41,4 +43,14 @@ pub fn stream(image: &[u8], block: u32, signal: u32) -> &[u8]
         return &image[0..0];
     }
     stream_in(image, block, signal)
+}
+
+// The last entry of a signal at or before a time, or its first; a vector's symbols go into out. 11, 4, 9.
+pub fn cursor(image: &[u8], signal: u32, time: u64, out: &mut [u8]) -> CursorAnswer
+    ensures { λ r. ⌜ cursorAfter (cursorReply r) (now (out .exit)) ≡ cursorOf (now (image .entry)) signal time (now (out .entry)) ⌝ }
+{
+    if !open(image) {
+        return CursorAnswer::Refused(11);
+    }
+    cursor_in(image, signal, time, out)
 }

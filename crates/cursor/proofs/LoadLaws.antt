@@ -1,0 +1,172 @@
+-- Passing all blocks of a signal, each with its own times, points to the entry that `lastBefore` finds in the combined table among those
+-- that loading keeps.
+-- Assumes nothing.
+use Prim.Native.Nat.{ℕ, zero, suc, _+_, _-_, _≤_, _<_}
+use mathlib.Core.Path.{_≡_, refl, sym, ap, _∙_}
+use mathlib.Core.Bool.{Bool, true, false}
+use mathlib.Core.List.{List, [], _∷_, _++_, append-assoc, append-nil}
+use mathlib.Core.Option.{Option, some, none}
+use native.Mathlib.Omega.{arith}
+use borrow.Author.Tests.{eqb-true}
+use lib.Dec.{eqb}
+use lib.ListN.{length, getD, drop, length-append}
+use Rattle.lists.specs.Choice.{pick}
+use Rattle.lists.specs.Last.{lastOr}
+use Rattle.signal.specs.declared.kind.SignalEncoding.{SignalEncoding}
+use Rattle.signal.specs.declared.kind.SignalEncoding.the-variants.{Absent}
+use Rattle.stream.specs.Entries.{Entry, entry, streamBytes}
+use Rattle.stream.specs.Stream.{changeBytes}
+use Rattle.image.specs.Block.{Part, Block, partBytes, dataOf}
+use Rattle.image.specs.Image.{streamedPart, streamedParts}
+use Rattle.codec.specs.Valid.{EntriesFit, OptionFits, PartsFit, BlocksFit, Filled, firstIndex, topsAfter}
+use Rattle.codec.proofs.StreamLaws.{change-long}
+use Rattle.loaded.specs.Opener.{partAt}
+use Rattle.loaded.specs.Loading.{overlap, joinTimes, moved, Load, load, entriesIn, loadBlock, loadFrom, loads}
+use Rattle.cursor.specs.Point.{Point, unpointed, passed, allPassed, blocksPassed}
+use Rattle.cursor.proofs.PointLaws.{holding, passed-pushed}
+
+-- ---- a block's times in the combined table
+
+at-front : (a b : List ℕ) (i : ℕ) → i < length a → getD (a ++ b) i 0 ≡ getD a i 0
+at-front [] b i h = absurd (omega arith)
+at-front (x ∷ a) b zero h = refl
+at-front (x ∷ a) b (suc i) h = at-front a b i (omega arith)
+
+at-back : (a b : List ℕ) (i : ℕ) → getD (a ++ b) (length a + i) 0 ≡ getD b i 0
+at-back [] b i = let z : 0 + i ≡ i = omega arith in ap (λ (n : ℕ). getD b n 0) z
+at-back (x ∷ a) b i = let z : suc (length a) + i ≡ suc (length a + i) = omega arith in ap (λ (n : ℕ). getD (x ∷ (a ++ b)) n 0) z ∙ at-back a b i
+
+at-last : (x : ℕ) (l r : List ℕ) → getD ((x ∷ l) ++ r) (length l) 0 ≡ lastOr x l
+unfolding lastOr
+at-last x [] r = refl
+at-last x (y ∷ l) r = at-last y l r
+
+joined-at : (tb ts rest : List ℕ) (i : ℕ) → i < length ts → getD (joinTimes tb ts ++ rest) (length tb - overlap tb ts + i) 0 ≡ getD ts i 0
+joined-at [] ts rest i h = let z : 0 - 0 + i ≡ i = omega arith in ap (λ (n : ℕ). getD (ts ++ rest) n 0) z ∙ at-front ts rest i h
+joined-at (x ∷ l) [] rest i h = absurd (omega arith)
+joined-at (x ∷ l) (u ∷ us) rest i h = by (eqb u (lastOr x l)) refl i h
+  where
+    by : (b : Bool) → eqb u (lastOr x l) ≡ b → (i : ℕ) → i < suc (length us)
+        → getD (((x ∷ l) ++ drop (pick b 1 0) (u ∷ us)) ++ rest) (suc (length l) - pick b 1 0 + i) 0 ≡ getD (u ∷ us) i 0
+    by true e zero h =
+        let z : suc (length l) - 1 + 0 ≡ length l = omega arith in
+        ap (λ (n : ℕ). getD (((x ∷ l) ++ us) ++ rest) n 0) z ∙ ap (λ (m : List ℕ). getD m (length l) 0) (append-assoc (x ∷ l) us rest) ∙ at-last x l (us ++ rest) ∙ sym (eqb-true u (lastOr x l) e)
+    by true e (suc i) h =
+        let z : suc (length l) - 1 + suc i ≡ suc (length l) + i = omega arith in
+        ap (λ (n : ℕ). getD (((x ∷ l) ++ us) ++ rest) n 0) z ∙ ap (λ (m : List ℕ). getD m (suc (length l) + i) 0) (append-assoc (x ∷ l) us rest)
+        ∙ at-back (x ∷ l) (us ++ rest) i ∙ at-front us rest i (omega arith)
+    by false e i h =
+        let z : suc (length l) - 0 + i ≡ suc (length l) + i = omega arith in
+        ap (λ (n : ℕ). getD (((x ∷ l) ++ (u ∷ us)) ++ rest) n 0) z ∙ ap (λ (m : List ℕ). getD m (suc (length l) + i) 0) (append-assoc (x ∷ l) (u ∷ us) rest)
+        ∙ at-back (x ∷ l) ((u ∷ us) ++ rest) i ∙ at-front (u ∷ us) rest i h
+
+-- ---- entries whose indices are below a number
+
+abbrev pub Inside : ℕ → List Entry → Type 0
+Inside n [] = Unit {0}
+Inside n (e ∷ es) = (e .index < n) × Inside n es
+
+passed-moved : (ts all : List ℕ) (t m : ℕ) (s : Point) (es : List Entry) → ((i : ℕ) → i < length ts → getD all (m + i) 0 ≡ getD ts i 0) → Inside (length ts) es
+    → allPassed ts t s es ≡ allPassed all t s (moved m es)
+unfolding allPassed moved
+passed-moved ts all t m s [] h k = refl
+passed-moved ts all t m s (e ∷ es) h k =
+    ap (λ (u : ℕ). allPassed ts t (passed t s u (e .content)) es) (sym (h (e .index) (k .0)))
+    ∙ passed-moved ts all t m (passed t s (getD all (m + e .index) 0) (e .content)) es h (k .1)
+
+entries-inside : (k : SignalEncoding) (n i top : ℕ) (es : List Entry) → EntriesFit k n i top es → Inside n es
+entries-inside k n i top [] f = tt
+entries-inside k n i top (e ∷ es) f = (f .0 .inside, entries-inside k n (e .index) top es (f .1))
+
+entries-later : (k : SignalEncoding) (n i top : ℕ) (es : List Entry) → EntriesFit k n i top es → EntriesFit k n 0 top es
+entries-later k n i top [] f = tt
+entries-later k n i top (e ∷ es) f = (record { later = omega arith; inside = f .0 .inside; content = f .0 .content; class = f .0 .class }, f .1)
+
+-- the entries of a signal's part, whichever classes came before
+abbrev pub SignalFits : SignalEncoding → (n : ℕ) → List Entry → Type 0
+SignalFits k n es = (top : ℕ) × EntriesFit k n 0 top es
+
+option-fits : (k : SignalEncoding) (n i before : ℕ) (p : Option (Part (List Entry))) → OptionFits k n i before p → SignalFits k n (entriesIn p)
+option-fits k n i before none f = (0, tt)
+option-fits k n i before (some p) f = (p .top, entries-later k n i (p .top) (p .stream) (f .entries))
+
+pub part-fits : (n i : ℕ) (ks : List SignalEncoding) (tops : List ℕ) (ps : List (Option (Part (List Entry)))) (g : ℕ) → PartsFit n i ks tops ps
+    → SignalFits (getD ks g Absent) n (entriesIn (getD ps g none))
+part-fits n i [] tops [] g f = (0, tt)
+part-fits n i [] tops (p ∷ ps) g f = absurd f
+part-fits n i (k ∷ ks) tops [] g f = absurd f
+part-fits n i (k ∷ ks) tops (p ∷ ps) zero f = option-fits k n i (getD tops 0 0) p (f .0)
+part-fits n i (k ∷ ks) tops (p ∷ ps) (suc g) f = part-fits n i ks (drop 1 tops) ps g (f .1)
+
+-- ---- all blocks
+
+times-more : (g : ℕ) (l : Load) (bs : List (Block (List Entry))) → (rest : List ℕ) × (loadFrom g l bs .times ≡ l .times ++ rest)
+unfolding loadFrom
+times-more g l [] = ([], sym (append-nil (l .times)))
+times-more g l (b ∷ bs) =
+    let ih = times-more g (loadBlock g l b) bs in
+    let d : List ℕ = drop (overlap (l .times) (b .times)) (b .times) in
+    (d ++ ih .0, ih .1 ∙ append-assoc (l .times) d (ih .0))
+
+module _ (limit : ℕ) (ks : List SignalEncoding) (t g : ℕ) where
+  block-loads : (all : List ℕ) (l : Load) (y : Block (List Entry)) (rest : List ℕ) (end : Option ℕ) (tops : List ℕ) → PartsFit (length (y .times)) (firstIndex end) ks tops (y .parts)
+      → all ≡ joinTimes (l .times) (y .times) ++ rest
+      → allPassed (y .times) t (holding all t (l .entries)) (entriesIn (partAt y g)) ≡ holding all t (loadBlock g l y .entries)
+  block-loads all l y rest end tops f e =
+      let es : List Entry = entriesIn (partAt y g) in
+      let q = part-fits (length (y .times)) (firstIndex end) ks tops (y .parts) g f in
+      let m : ℕ = length (l .times) - overlap (l .times) (y .times) in
+      passed-moved (y .times) all t m (holding all t (l .entries)) es (λ i h. ap (λ (z : List ℕ). getD z (m + i) 0) e ∙ joined-at (l .times) (y .times) rest i h) (entries-inside _ _ 0 (q .0) es (q .1))
+      ∙ passed-pushed all t (l .entries) (moved m es)
+
+  blocks-load : (all : List ℕ) (l : Load) (bs : List (Block (List Entry))) (end : Option ℕ) (tops : List ℕ) → BlocksFit limit ks end tops bs → all ≡ loadFrom g l bs .times
+      → blocksPassed t g (holding all t (l .entries)) bs ≡ holding all t (loadFrom g l bs .entries)
+  unfolding blocksPassed loadFrom
+  blocks-load all l [] end tops f e = refl
+  blocks-load all l (y ∷ bs) end tops f e =
+      let r = times-more g (loadBlock g l y) bs in
+      ap (λ (s : Point). blocksPassed t g s bs) (block-loads all l y (r .0) end tops (f .0 .parts) (e ∙ r .1))
+      ∙ blocks-load all (loadBlock g l y) bs (some (lastOr 0 (y .times))) (topsAfter tops (y .parts)) (f .1) e
+
+  pub points-loads : (bs : List (Block (List Entry))) → BlocksFit limit ks none [] bs
+      → blocksPassed t g unpointed bs ≡ holding (loads g bs .times) t (loads g bs .entries)
+  points-loads bs f = blocks-load (loads g bs .times) (load [] [] 0) bs none [] f refl
+
+-- ---- block number n
+
+filled-most : (limit n follow : ℕ) → Filled limit n follow → n ≤ limit
+filled-most limit n zero f = f
+filled-most limit n (suc m) f = omega arith
+
+pub record PartsAt (limit : ℕ) (ks : List SignalEncoding) (y : Block (List Entry)) : Type 0 where
+  pub first : ℕ
+  pub tops : List ℕ
+  pub most : length (y .times) ≤ limit
+  pub parts : PartsFit (length (y .times)) first ks tops (y .parts)
+
+pub parts-at : (limit : ℕ) (ks : List SignalEncoding) (end : Option ℕ) (tops : List ℕ) (bs : List (Block (List Entry))) (n : ℕ) (past : Block (List Entry)) → BlocksFit limit ks end tops bs
+    → n < length bs → PartsAt limit ks (getD bs n past)
+parts-at limit ks end tops [] n past f h = absurd (omega arith)
+parts-at limit ks end tops (y ∷ bs) zero past f h =
+    record { first = firstIndex end; tops = tops; most = filled-most limit (length (y .times)) (length bs) (f .0 .filled); parts = f .0 .parts }
+parts-at limit ks end tops (y ∷ bs) (suc n) past f h = parts-at limit ks _ _ bs n past (f .1) (omega arith)
+
+-- a signal has no more entries in a block than the block data bytes
+entries-short : (k : SignalEncoding) (n i top : ℕ) (es : List Entry) → EntriesFit k n i top es → length es ≤ length (streamBytes k i es)
+unfolding streamBytes
+entries-short k n i top [] f = omega arith
+entries-short k n i top (e ∷ es) f =
+    omega (arith, length-append (changeBytes k (e .index - i) (e .content)) (streamBytes k (e .index) es), change-long k (e .index - i) (e .content) (f .0 .content), entries-short k n (e .index) top es (f .1))
+
+option-short : (k : SignalEncoding) (n i before : ℕ) (p : Option (Part (List Entry))) → OptionFits k n i before p → length (entriesIn p) ≤ length (partBytes (streamedPart k p))
+option-short k n i before none f = omega arith
+option-short k n i before (some p) f = omega (arith, entries-short k n 0 (p .top) (p .stream) (entries-later k n i (p .top) (p .stream) (f .entries)))
+
+pub parts-short : (n i : ℕ) (ks : List SignalEncoding) (tops : List ℕ) (ps : List (Option (Part (List Entry)))) (g : ℕ) → PartsFit n i ks tops ps
+    → length (entriesIn (getD ps g none)) ≤ length (dataOf (streamedParts ks ps))
+unfolding dataOf streamedParts
+parts-short n i [] tops [] g f = omega arith
+parts-short n i [] tops (p ∷ ps) g f = absurd f
+parts-short n i (k ∷ ks) tops [] g f = absurd f
+parts-short n i (k ∷ ks) tops (p ∷ ps) zero f = omega (arith, length-append (partBytes (streamedPart k p)) (dataOf (streamedParts ks ps)), option-short k n i (getD tops 0 0) p (f .0))
+parts-short n i (k ∷ ks) tops (p ∷ ps) (suc g) f = omega (arith, length-append (partBytes (streamedPart k p)) (dataOf (streamedParts ks ps)), parts-short n i ks (drop 1 tops) ps g (f .1))
