@@ -59,13 +59,18 @@ fn call(line: &str) -> Option<Call> {
     })
 }
 
-fn start(limit: BlockTimeIdx, kinds: &[Kind]) -> Encoder {
-    set_block_limit(limit);
+/// A hierarchy with these signals; an absent one stands there as a bit.
+fn hierarchy(kinds: &[Kind]) -> Hierarchy {
     let mut builder = HierarchyBuilder::default();
     for kind in kinds {
         builder.new_signal(kind.unwrap_or(SignalEncoding::BitVector(1)));
     }
-    let mut encoder = Encoder::new(&builder.finish());
+    builder.finish()
+}
+
+fn start(limit: BlockTimeIdx, kinds: &[Kind]) -> Encoder {
+    set_block_limit(limit);
+    let mut encoder = Encoder::new(&hierarchy(kinds));
     assert_eq!(encoder.signals.len(), kinds.len());
     for (signal, kind) in encoder.signals.iter_mut().zip(kinds) {
         match kind {
@@ -157,6 +162,62 @@ fn write_blocks(out: &mut impl Write, kinds: &[Kind], blocks: &[Block]) {
     }
 }
 
+fn joined(words: impl Iterator<Item = String>) -> String {
+    words.map(|word| " ".to_string() + &word).collect()
+}
+
+/// One entry as the Rust shows it.
+fn shown(value: SignalValueRef<'_>) -> String {
+    match value {
+        SignalValueRef::Event => "event".to_string(),
+        SignalValueRef::BitVec(value) => {
+            format!("{}:{}", value.states() as u8, value.bit_string())
+        }
+        SignalValueRef::Real(value) => format!("{:016x}", value.to_bits()),
+        SignalValueRef::String(_) => unreachable!("no string signals here"),
+    }
+}
+
+/// What the `SignalSource` that `finish` answers loads, absent signals left out.
+/// It does not tell the class of an event or a real, so the class is asked of a
+/// `Reader` on the same blocks; a vector's must be the one that its `Signal` has.
+fn write_loads(out: &mut impl Write, kinds: &[Kind], encoder: Encoder) {
+    let reader = Reader {
+        blocks: finish(encoder.clone()),
+    };
+    let (mut source, table) = encoder.finish();
+    let times = joined(table.iter().map(Time::to_string));
+    writeln!(out, "times {}:{times}", table.len()).unwrap();
+    let present = (0..kinds.len()).filter(|signal| kinds[*signal].is_some());
+    let ids: Vec<SignalRef> = present
+        .map(|signal| SignalRef::from_index(signal).unwrap())
+        .collect();
+    let signals = source.load_signals(&ids, &hierarchy(kinds), false);
+    for (id, signal) in ids.iter().zip(&signals) {
+        let class = reader.collect_signal_meta_data(*id).max_states;
+        assert!(signal.max_states().is_none_or(|own| own == class));
+        let indices = signal.time_indices();
+        let (number, count) = (id.index(), indices.len());
+        write!(out, "signal {number} entries {count} class {}:", class as u8).unwrap();
+        write!(out, "{}", joined(indices.iter().map(u32::to_string))).unwrap();
+        let bytes = Some(hex(entry_bytes(signal))).filter(|bytes| !bytes.is_empty());
+        writeln!(out, "{}", joined(bytes.into_iter())).unwrap();
+        let values = joined(signal.iter_changes().map(|(_, value)| shown(value)));
+        writeln!(out, "signal {number} values:{values}").unwrap();
+    }
+}
+
+/// What is printed.
+#[derive(Clone, Copy, PartialEq)]
+pub enum Wanted {
+    /// Each call's answer and each image.
+    Answers,
+    /// The blocks that the Rust made.
+    Blocks,
+    /// What the Rust loads of them.
+    Loads,
+}
+
 /// A recording under way, and its skipped changes, which the Rust does not count.
 struct Recording {
     kinds: Vec<Kind>,
@@ -164,7 +225,7 @@ struct Recording {
     skipped: u32,
 }
 
-fn answer(out: &mut impl Write, open: &mut Option<Recording>, call: Call, parts: bool) {
+fn answer(out: &mut impl Write, open: &mut Option<Recording>, call: Call, wanted: Wanted) {
     let word = match (call, open.as_mut()) {
         (Call::Start(limit, kinds), None) => {
             let encoder = start(limit, &kinds);
@@ -187,8 +248,11 @@ fn answer(out: &mut impl Write, open: &mut Option<Recording>, call: Call, parts:
                 encoder,
                 skipped,
             } = open.take().unwrap();
+            if wanted == Wanted::Loads {
+                return write_loads(out, &kinds, encoder);
+            }
             let blocks = finish(encoder);
-            if parts {
+            if wanted == Wanted::Blocks {
                 return write_blocks(out, &kinds, &blocks);
             }
             let kinds: Vec<u32> = kinds.iter().map(kind_number).collect();
@@ -198,7 +262,7 @@ fn answer(out: &mut impl Write, open: &mut Option<Recording>, call: Call, parts:
         }
         _ => panic!("recordings begin with a start and end with a finish"),
     };
-    if !parts {
+    if wanted == Wanted::Answers {
         writeln!(out, "{word}").unwrap();
     }
 }
@@ -216,15 +280,14 @@ fn answers_only() -> File {
     out.into()
 }
 
-/// Runs the recordings on standard input. Prints each call's answer and each
-/// image, or with `parts` the blocks that the Rust made.
-pub fn recordings(parts: bool) {
+/// Runs the recordings on standard input.
+pub fn recordings(wanted: Wanted) {
     assert!(cfg!(debug_assertions), "some refusals are debug assertions");
     let mut out = std::io::BufWriter::new(answers_only());
     let mut open = None;
     for (number, line) in std::io::stdin().lock().lines().enumerate() {
         match call(&line.unwrap()) {
-            Some(call) => answer(&mut out, &mut open, call, parts),
+            Some(call) => answer(&mut out, &mut open, call, wanted),
             None => {
                 out.flush().unwrap();
                 eprintln!("oracle: line {} is no call", number + 1);
@@ -250,7 +313,7 @@ pub(super) fn selftest() {
         1400000001000000000000000100000000000000\n";
     let (mut out, mut open) = (Vec::new(), None);
     for line in calls.split('\n') {
-        answer(&mut out, &mut open, call(line).unwrap(), false);
+        answer(&mut out, &mut open, call(line).unwrap(), Wanted::Answers);
     }
     assert_eq!(String::from_utf8(out).unwrap(), expected);
 }

@@ -10,7 +10,7 @@ use std::sync::LazyLock;
 use std::sync::atomic::{AtomicBool, AtomicU16, Ordering::Relaxed};
 
 mod recordings;
-pub use recordings::recordings;
+pub use recordings::{Wanted, recordings};
 
 // The limit B, the number of times that a block holds.
 
