@@ -1,15 +1,14 @@
 -- What loading finds in a block of an accepted image.
 -- Assumes nothing.
-use Prim.Native.Nat.{ℕ, zero, suc, _+_, _-_, _*_, _≤_, _<_}
-use mathlib.Core.Path.{_≡_, refl, sym, ap, _∙_, subst}
+use Prim.Native.Nat.{ℕ, zero, suc, _+_, _-_, _≤_, _<_}
+use mathlib.Core.Path.{_≡_, refl, sym, ap, _∙_}
 use mathlib.Core.Bool.{Bool}
 use mathlib.Core.List.{List, [], _∷_, _++_}
 use mathlib.Core.Option.{Option, some, none}
 use native.Mathlib.Omega.{arith}
-use lib.ListN.{length, getD, take, drop, length-append, length-take, length-drop, take-append-drop}
+use lib.ListN.{length, getD, take, drop, length-append, length-drop, take-append-drop}
 use lib.Seq.{length-take-le}
 use Rattle.lists.specs.Bytes.{Bytes}
-use Rattle.lists.specs.Last.{lastOr}
 use Rattle.signal.specs.declared.kind.SignalEncoding.{SignalEncoding}
 use Rattle.signal.specs.declared.kind.SignalEncoding.the-variants.{Absent}
 use Rattle.signal.specs.declared.decode.ChangeValue.{ChangeValue}
@@ -18,16 +17,15 @@ use Rattle.stream.specs.Answer.{changeAt}
 use Rattle.stream.specs.Entries.{Entry, streamBytes}
 use Rattle.image.specs.Block.{Part, Block, block, dataOf, partBytes}
 use Rattle.image.specs.Head.{imageLimit}
-use Rattle.image.specs.Image.{Image, streamedParts, streamedPart}
-use Rattle.codec.specs.Valid.{EntriesFit, OptionFits, PartsFit, topsAfter, firstIndex, Filled, BlockFits, BlocksFit, Valid}
+use Rattle.image.specs.Image.{streamedParts, streamedPart}
+use Rattle.codec.specs.Valid.{EntriesFit, OptionFits, PartsFit, firstIndex, Filled, BlockFits, BlocksFit}
 use Rattle.codec.proofs.Growth.{parts-count}
-use Rattle.codec.proofs.Trip.{Means}
 use Rattle.loaded.specs.Opener.{kindAt, blockAt, partAt, streamIn}
 use Rattle.loaded.specs.Loading.{entriesIn, topIn}
 use Rattle.walk.specs.Walk.{Opened, imageIn, blockPlace, BlockHere, PartHere}
 use Rattle.walk.proofs.HeadLaws.{means, head-in}
 use Rattle.walk.proofs.BlockLaws.{here, next-size}
-use Rattle.loader.specs.Output.{Output, allTaken, Room, LastReads, outputAs}
+use Rattle.loader.specs.Output.{allTaken, Room, LastReads, outputAs}
 use Rattle.loader.specs.Blocks.{baseOf, changesIn, topOf}
 use Rattle.loader.specs.declared.changes.Loading.{Loading}
 use Rattle.loader.proofs.StreamLaws.{Ahead, Turn, turn, not-bad, Going, gone}

@@ -1,27 +1,25 @@
 -- Loading block after block, on plain lists and in an accepted image.
 -- Assumes nothing.
-use Prim.Native.Nat.{ℕ, zero, suc, _+_, _-_, _*_, _≤_, _<_, max}
+use Prim.Native.Nat.{ℕ, zero, suc, _+_, _-_, _≤_, _<_, max}
 use mathlib.Core.Path.{_≡_, refl, sym, ap, _∙_, subst}
 use mathlib.Core.Bool.{Bool, true, false}
 use mathlib.Core.List.{List, [], _∷_, _++_, map}
 use mathlib.Core.Option.{Option, some, none}
 use native.Mathlib.Omega.{arith}
 use borrow.Author.Tests.{eq-eqb}
-use lib.Dec.{eqb}
-use lib.ListN.{length, getD, take, drop, length-append, drop-of-length-le}
+use lib.ListN.{length, drop, length-append, drop-of-length-le}
 use lib.Seq.{drop-cons, length-sets}
-use Rattle.lists.specs.Choice.{pick}
 use Rattle.lists.specs.Bytes.{Bytes}
 use Rattle.lists.specs.Last.{lastOr}
 use Rattle.signal.specs.declared.kind.SignalEncoding.{SignalEncoding}
 use Rattle.stream.specs.Entries.{Entry}
-use Rattle.image.specs.Block.{Part, Block, block}
+use Rattle.image.specs.Block.{Block, block}
 use Rattle.image.specs.Head.{imageLimit}
 use Rattle.image.specs.Image.{Image}
-use Rattle.codec.specs.Valid.{topsAfter, BlockFits, BlocksFit, Valid}
+use Rattle.codec.specs.Valid.{topsAfter, BlocksFit}
 use Rattle.codec.specs.Valid as valid
 use Rattle.loaded.specs.Opener.{kindAt, blockAt, partAt}
-use Rattle.loaded.specs.Loading.{overlap, joinTimes, moved, pushed, Load, load, entriesIn, topIn, loadBlock, loadFrom, loads}
+use Rattle.loaded.specs.Loading.{overlap, joinTimes, moved, pushed, Load, load, entriesIn, loadBlock, loadFrom, loads}
 use Rattle.loaded.specs.EntryBytes.{entriesBytes}
 use Rattle.loaded.specs.Reader.{indexIn}
 use Rattle.walk.specs.Walk.{Opened, imageIn, blockPlace, BlockHere}

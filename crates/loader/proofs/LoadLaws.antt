@@ -1,8 +1,8 @@
 -- The kept entries of a signal of an accepted image fit its kind and its class, so their bytes are as many as their number says.
 -- And what loading answers, by what the code finds.
 -- Assumes nothing.
-use Prim.Native.Nat.{ℕ, zero, suc, _+_, _-_, _*_, _≤_, _<_, max}
-use mathlib.Core.Path.{_≡_, refl, sym, ap, _∙_, subst}
+use Prim.Native.Nat.{ℕ, zero, suc, _+_, _-_, _*_, _≤_, _<_}
+use mathlib.Core.Path.{_≡_, refl, sym, ap, _∙_}
 use mathlib.Core.Bool.{Bool, true, false, _||_}
 use mathlib.Core.List.{List, [], _∷_, _++_, map}
 use mathlib.Core.Option.{Option, some, none}
@@ -10,7 +10,7 @@ use native.Mathlib.Nat.{mul-le-mul}
 use native.Mathlib.Omega.{arith}
 use borrow.Author.Tests.{leb-true, lt-ltb, le-ltb, ltb-false}
 use lib.Dec.{leb, ltb}
-use lib.ListN.{length, getD, drop, length-append, List·getD-eq-default}
+use lib.ListN.{length, getD, length-append, List·getD-eq-default}
 use lib.Seq.{sets}
 use Rattle.lists.specs.Choice.{pick}
 use Rattle.lists.specs.Bytes.{Bytes}
@@ -22,21 +22,21 @@ use Rattle.value.proofs.ClassLaws.{number-states}
 use Rattle.signal.specs.declared.kind.SignalEncoding.{SignalEncoding}
 use Rattle.signal.specs.declared.kind.SignalEncoding.the-variants.{BitVector, Real, Absent}
 use Rattle.signal.specs.Kind.{absent, knownKind, topLimit}
-use Rattle.signal.specs.Content.{Content, ContentFits, symbolsOf}
-use Rattle.stream.specs.Entries.{Entry, entry, orNine}
+use Rattle.signal.specs.Content.{ContentFits, symbolsOf}
+use Rattle.stream.specs.Entries.{Entry, orNine}
 use Rattle.image.specs.Block.{Part, Block}
 use Rattle.image.specs.Head.{imageLimit}
 use Rattle.image.specs.Image.{Image}
-use Rattle.codec.specs.Valid.{EntriesFit, OptionFits, KnownKinds, topsAfter, firstIndex, BlocksFit, Valid}
+use Rattle.codec.specs.Valid.{EntriesFit, OptionFits, KnownKinds, topsAfter, firstIndex, BlocksFit}
 use Rattle.loaded.specs.Opener.{kindAt, partAt}
 use Rattle.loaded.specs.Loading.{overlap, moved, repeatsLast, pushed, Load, load, entriesIn, topIn, loadBlock, loadFrom, loads, signalClass}
 use Rattle.loaded.specs.EntryBytes.{entryBytes, entriesBytes}
-use Rattle.loaded.specs.Reader.{unknownSignal, refuse, loaded, LoadAfter, loadAfter, indexIn, loadIn}
+use Rattle.loaded.specs.Reader.{unknownSignal, refuse, loaded, loadAfter, indexIn, loadIn}
 use Rattle.entry.specs.Length.{classByte, wideLength, entryLength}
 use Rattle.entry.proofs.LengthLaws.{entry-length}
 use Rattle.walk.specs.Walk.{Opened, imageIn}
 use Rattle.walk.proofs.HeadLaws.{means}
-use Rattle.loader.specs.Output.{Output, output, Room, lastContent, holding, outputAs}
+use Rattle.loader.specs.Output.{Output, Room, holding, outputAs}
 use Rattle.loader.specs.Sizes.{tooShort, classAnswered}
 use Rattle.loader.specs.declared.changes.Loading.{Loading}
 use Rattle.loader.proofs.BlockLaws.{part-fits, entries-fit}

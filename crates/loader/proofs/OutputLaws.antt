@@ -1,11 +1,11 @@
 -- What taking changes makes of an output is what `pushed` makes of the entries that it holds.
 -- Assumes nothing.
-use Prim.Native.Nat.{ℕ, zero, suc, _+_, _≤_, _<_}
-use mathlib.Core.Path.{_≡_, refl, sym, ap, _∙_, subst}
+use Prim.Native.Nat.{ℕ, suc, _+_, _≤_, _<_}
+use mathlib.Core.Path.{_≡_, refl, sym, ap, _∙_}
 use mathlib.Core.Bool.{Bool, true, false}
 use mathlib.Core.List.{List, [], _∷_, _++_, map, append-assoc, append-nil}
-use mathlib.Core.Option.{Option, some, none}
-use native.Mathlib.Nat.{zero-add, add-zero}
+use mathlib.Core.Option.{Option, some}
+use native.Mathlib.Nat.{zero-add}
 use native.Mathlib.Omega.{arith}
 use lib.ListN.{length, set, length-append, length-set, length-map}
 use lib.Seq.{sets, length-sets}
@@ -13,11 +13,13 @@ use Rattle.lists.specs.Choice.{pick}
 use Rattle.lists.proofs.SetsLaws.{sets-append}
 use Rattle.signal.specs.declared.kind.SignalEncoding.{SignalEncoding}
 use Rattle.signal.specs.Content.{Content}
-use Rattle.stream.specs.Entries.{Entry, entry, repeats}
+use Rattle.stream.specs.Entries.{Entry, entry}
 use Rattle.loaded.specs.Loading.{repeatsLast, pushed}
 use Rattle.loaded.specs.EntryBytes.{entryBytes, entriesBytes}
 use Rattle.loaded.specs.Reader.{indexIn}
-use Rattle.loader.specs.Output.{Output, output, repeatsKept, kept, taken, allTaken, Room, lastContent, holding}
+use Rattle.loader.specs.Output.{Output, output, repeatsKept, kept, taken, allTaken, Room, lastIn, outputAs, lastContent, holding}
+use Rattle.loader.specs.declared.changes.LastKept.{LastKept}
+use Rattle.loader.specs.declared.changes.Loading.{Loading}
 
 -- ---- one entry more
 
@@ -143,3 +145,8 @@ module _ (k : SignalEncoding) (c : ℕ) (w : Bool) (o : Output) (i : ℕ) (a : C
       let q = h g in
       let s : taken k c w o i a ≡ kept k c true o i a = taken-kept f ∙ ap (λ (t : Bool). kept k c t o i a) g in
       (omega (arith, q .0, ap (λ (p : Output). p .count) s), omega (arith, q .1, ap (λ (p : Output). p .used) s))
+
+-- what the code holds after it
+pub output-of : (k : SignalEncoding) (b : List ℕ) (r : Loading) (n u : ℕ) (l : LastKept) (i o : List ℕ) → r .count ≡ n → r .used ≡ u → r .last ≡ l
+    → outputAs k b r i o ≡ output n u (lastIn k b l) i o
+output-of k b r n u l i o e f g = rw (e, f, g) refl

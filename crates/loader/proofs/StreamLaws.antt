@@ -2,13 +2,12 @@
 -- Assumes nothing.
 use Prim.Native.Nat.{ℕ, zero, suc, _+_, _-_, _*_, _≤_, _<_}
 use mathlib.Core.Path.{_≡_, refl, sym, ap, _∙_, subst}
-use mathlib.Core.Bool.{Bool, true, false}
+use mathlib.Core.Bool.{Bool}
 use mathlib.Core.List.{List, [], _∷_, _++_, append-assoc}
-use mathlib.Core.Option.{Option, some, none}
+use mathlib.Core.Option.{some, none}
 use native.Mathlib.Omega.{arith}
-use lib.ListN.{length, take, drop, length-append, length-drop, length-take, take-append-drop}
-use lib.Seq.{drop-drop}
-use Rattle.lists.specs.Got.{Got, bad, got}
+use lib.ListN.{length, drop, length-append, length-drop}
+use Rattle.lists.specs.Got.{got}
 use Rattle.lists.specs.Bytes.{Bytes}
 use Rattle.numbers.specs.Leb128.{lebOf}
 use Rattle.numbers.proofs.Leb128Laws.{leb-any}
@@ -19,11 +18,10 @@ use Rattle.signal.specs.declared.kind.SignalEncoding.{SignalEncoding}
 use Rattle.signal.specs.declared.kind.SignalEncoding.the-variants.{BitVector, Real, Absent}
 use Rattle.signal.specs.declared.decode.ChangeValue.{ChangeValue}
 use Rattle.signal.specs.Content.{Content, ContentFits, symbolsOf, realBits}
-use Rattle.stream.specs.declared.read.ReadChange.{ReadChange}
 use Rattle.stream.specs.declared.read.ReadChange.the-variants as read
-use Rattle.stream.specs.Stream.{Change, change, changeBytes, readChange, maxDelta}
+use Rattle.stream.specs.Stream.{Change, change, changeBytes, readChange}
 use Rattle.stream.specs.Answer.{changeAt, readAs}
-use Rattle.stream.specs.Entries.{Entry, entry, streamBytes}
+use Rattle.stream.specs.Entries.{Entry, streamBytes}
 use Rattle.stream.proofs.StreamTrip.{read-written}
 use Rattle.codec.specs.Valid.{EntryFits, EntriesFit}
 use Rattle.loaded.specs.Loading.{moved}

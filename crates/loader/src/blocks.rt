@@ -13,10 +13,10 @@ ghost use Prim.Native.Nat.{_≤_};
 ghost use lib.ListN.{length};
 ghost use Rattle.value.specs.Class.{classNumber};
 ghost use Rattle.image.specs.Head.{imageLimit};
-ghost use Rattle.loaded.specs.Opener.{kindAt};
 ghost use Rattle.loaded.specs.Loading.{loads};
 ghost use Rattle.walk.specs.Walk.{Opened, imageIn};
-ghost use Rattle.loader.specs.Output.{Room, outputAs, holding};
+ghost use Rattle.loader.specs.Output.{Room};
+ghost use Rattle.loader.specs.Blocks.{outputIn, allLoaded};
 
 // A signal's changes of all blocks, repeats dropped across them.
 pub fn load_blocks(
@@ -27,8 +27,8 @@ pub fn load_blocks(
     index: &mut [u32],
     bytes: &mut [u8],
 ) -> Loading
-    requires { ⌜ Opened (now image) × (loads signal (imageIn (now image) .blocks) .class ≤ classNumber class) × Room write (holding (kindAt (imageIn (now image)) signal) (classNumber class) write (now index) (now bytes) (loads signal (imageIn (now image) .blocks) .entries)) (length (now index)) (length (now bytes)) ⌝ }
-    ensures { λ r. ⌜ (r .top ≡ loads signal (imageIn (now (image .entry)) .blocks) .class) × (r .count ≤ imageLimit) × (outputAs (kindAt (imageIn (now (image .entry))) signal) (now (image .entry)) r (now (index .exit)) (now (bytes .exit)) ≡ holding (kindAt (imageIn (now (image .entry))) signal) (classNumber class) write (now (index .entry)) (now (bytes .entry)) (loads signal (imageIn (now (image .entry)) .blocks) .entries)) ⌝ }
+    requires { ⌜ Opened (now image) × (loads signal (imageIn (now image) .blocks) .class ≤ classNumber class) × Room write (allLoaded (now image) signal (classNumber class) write (now index) (now bytes)) (length (now index)) (length (now bytes)) ⌝ }
+    ensures { λ r. ⌜ (r .top ≡ loads signal (imageIn (now (image .entry)) .blocks) .class) × (r .count ≤ imageLimit) × (outputIn (now (image .entry)) signal r (now (index .exit)) (now (bytes .exit)) ≡ allLoaded (now (image .entry)) signal (classNumber class) write (now (index .entry)) (now (bytes .entry))) ⌝ }
 {
     let blocks = block_count(image);
     let mut at = first_block(image);

@@ -19,8 +19,8 @@ ghost use Rattle.loaded.specs.EntryBytes.{entryBytes};
 ghost use Rattle.loaded.specs.Opener.{kindAt};
 ghost use Rattle.entry.specs.Read.{contentRead, Reads};
 ghost use Rattle.walk.specs.Walk.{Opened, imageIn, blockPlace, BlockHere};
-ghost use Rattle.loader.specs.Output.{Output, repeatsKept, taken, allTaken, Room, lastIn, LastReads, outputAs};
-ghost use Rattle.loader.specs.Blocks.{baseOf, changesIn, topOf};
+ghost use Rattle.loader.specs.Output.{repeatsKept, taken, Room, lastIn, LastReads, outputAs};
+ghost use Rattle.loader.specs.Blocks.{baseOf, topOf, outputIn, blockTaken};
 
 // The last kept change: its value, and the place in the image after it.
 pub enum LastKept {
@@ -52,25 +52,41 @@ fn repeats_last(
     }
 }
 
-// Stores an entry's index and its bytes, and answers the place after these.
+// Stores the index and the bytes of an entry after those that are kept, and answers the place after its bytes.
 fn write_entry(
     image: &[u8],
     kind: SignalEncoding,
     class: States,
     value: ChangeValue,
     next: usize,
-    at: usize,
     i: u32,
-    used: usize,
+    state: Loading,
     index: &mut [u32],
     bytes: &mut [u8],
 ) -> usize
     requires { ⌜ Reads kind (now image) value next × (classOfAll (symbolsOf (contentRead kind (now image) value next)) ≤ classNumber class) ⌝ }
-    requires { ⌜ (at < length (now index)) × (used + length (entryBytes kind (classNumber class) (contentRead kind (now image) value next)) ≤ length (now bytes)) ⌝ }
-    ensures { λ r. ⌜ (r ≡ used + length (entryBytes kind (classNumber class) (contentRead kind (now (image .entry)) value next))) × (now (index .exit) ≡ set (now (index .entry)) at i) × (now (bytes .exit) ≡ sets (now (bytes .entry)) used (entryBytes kind (classNumber class) (contentRead kind (now (image .entry)) value next))) ⌝ }
+    requires { ⌜ (state .count < length (now index)) × (state .used + length (entryBytes kind (classNumber class) (contentRead kind (now image) value next)) ≤ length (now bytes)) ⌝ }
+    ensures { λ r. ⌜ (r ≡ state .used + length (entryBytes kind (classNumber class) (contentRead kind (now (image .entry)) value next))) × (now (index .exit) ≡ set (now (index .entry)) (state .count) i) × (now (bytes .exit) ≡ sets (now (bytes .entry)) (state .used) (entryBytes kind (classNumber class) (contentRead kind (now (image .entry)) value next))) ⌝ }
 {
+    let at = state.count as usize;
+    let used = state.used;
     index[at] = i;
     put_entry(bytes, used, image, kind, class, value, next)
+}
+
+// With one entry more, of which so many bytes are used then.
+fn one_more(state: Loading, used: usize, last: LastKept) -> Loading
+    requires { ⌜ state .count + 1 < 2 ^ 32 ⌝ }
+    ensures { λ r. ⌜ (r .count ≡ state .count + 1) × (r .used ≡ used) × (r .top ≡ state .top) × (r .last ≡ last) ⌝ }
+{
+    let count = state.count + 1;
+    let top = state.top;
+    Loading {
+        count,
+        used,
+        top,
+        last,
+    }
 }
 
 // One change, at the index i of the combined table.
@@ -94,36 +110,13 @@ fn take_change(
     if repeats_last(image, kind, kept, value, next) {
         return state;
     }
-    let count = state.count;
-    let used = state.used;
-    let top = state.top;
     let last = LastKept::Change(value, next);
     if write {
-        let used = write_entry(
-            image,
-            kind,
-            class,
-            value,
-            next,
-            count as usize,
-            i,
-            used,
-            index,
-            bytes,
-        );
-        return Loading {
-            count: count + 1,
-            used,
-            top,
-            last,
-        };
+        let used = write_entry(image, kind, class, value, next, i, state, index, bytes);
+        return one_more(state, used, last);
     }
-    Loading {
-        count: count + 1,
-        used,
-        top,
-        last,
-    }
+    let used = state.used;
+    one_more(state, used, last)
 }
 
 // The top class never falls.
@@ -174,8 +167,8 @@ pub fn load_block(
     bytes: &mut [u8],
 ) -> Loading
     requires { ⌜ Opened (now image) × BlockHere number at (now image) × LastReads (kindAt (imageIn (now image)) signal) (now image) (state .last) × (topOf (imageIn (now image)) number signal ≤ classNumber class) ⌝ }
-    requires { ⌜ (number ≤ times) × (times ≤ at) × (state .count ≤ at) × Room write (allTaken (kindAt (imageIn (now image)) signal) (classNumber class) write (outputAs (kindAt (imageIn (now image)) signal) (now image) state (now index) (now bytes)) (changesIn (imageIn (now image)) number signal times)) (length (now index)) (length (now bytes)) ⌝ }
-    ensures { λ r. ⌜ LastReads (kindAt (imageIn (now (image .entry))) signal) (now (image .entry)) (r .last) × (r .top ≡ max (state .top) (topOf (imageIn (now (image .entry))) number signal)) × (r .count ≤ blockPlace (imageIn (now (image .entry))) (suc number)) × (outputAs (kindAt (imageIn (now (image .entry))) signal) (now (image .entry)) r (now (index .exit)) (now (bytes .exit)) ≡ allTaken (kindAt (imageIn (now (image .entry))) signal) (classNumber class) write (outputAs (kindAt (imageIn (now (image .entry))) signal) (now (image .entry)) state (now (index .entry)) (now (bytes .entry))) (changesIn (imageIn (now (image .entry))) number signal times)) ⌝ }
+    requires { ⌜ (number ≤ times) × (times ≤ at) × (state .count ≤ at) × Room write (blockTaken (now image) number signal times (classNumber class) write (outputIn (now image) signal state (now index) (now bytes))) (length (now index)) (length (now bytes)) ⌝ }
+    ensures { λ r. ⌜ LastReads (kindAt (imageIn (now (image .entry))) signal) (now (image .entry)) (r .last) × (r .top ≡ max (state .top) (topOf (imageIn (now (image .entry))) number signal)) × (r .count ≤ blockPlace (imageIn (now (image .entry))) (suc number)) × (outputIn (now (image .entry)) signal r (now (index .exit)) (now (bytes .exit)) ≡ blockTaken (now (image .entry)) number signal times (classNumber class) write (outputIn (now (image .entry)) signal state (now (index .entry)) (now (bytes .entry)))) ⌝ }
 {
     let kind = kind_at(image, signal);
     let part = part_in(image, at, signal);

@@ -1,6 +1,6 @@
 -- The loop's invariant: the output holds the entries of the blocks before, and the blocks that are left make of these what all blocks give.
-use Prim.Native.Nat.{ℕ, suc, _+_, _-_, _≤_, _<_}
-use mathlib.Core.Path.{_≡_, refl, sym, ap, _∙_, subst}
+use Prim.Native.Nat.{ℕ, _+_, _-_, _<_}
+use mathlib.Core.Path.{_≡_, ap, _∙_}
 use native.Mathlib.Omega.{arith}
 use lib.ListN.{length}
 use Rattle.value.specs.Class.{classNumber}
@@ -12,14 +12,6 @@ use Rattle.loader.proofs.BlocksLaws.{Passing, passing-first, passing-si
 use borrow.Author.Needs.{needs}
 use Rattle.loader.proofs.blocks.load_blocks.Statement.{statement}
 use Rattle.loader.proofs.blocks.load_blocks.Tie as tie
-use Rattle.loader.proofs.blocks.load_blocks.Reads as reads
-use Rattle.loader.proofs.blocks.load_blocks.Lts as lts
-use Rattle.loader.proofs.changes.first_index.Reads as first-index-reads
-use Rattle.loader.proofs.changes.load_block.Reads as load-block-reads
-use Rattle.walk.proofs.block.first_block.Reads as first-block-reads
-use Rattle.walk.proofs.block.next_block.Reads as next-block-reads
-use Rattle.walk.proofs.block.times_in.Reads as times-in-reads
-use Rattle.walk.proofs.head.block_count.Reads as block-count-reads
 
 abbrev Inv-loop : tie.InvT-loop
 Inv-loop image signal class write index₀ bytes₀ blocks at₀ number₀ times₀ state₀ index bytes at number times state =
@@ -41,15 +33,12 @@ found t =
     block-here (a .image .now) (a .signal) (classNumber (a .class)) (a .write) (a .index .now) (a .bytes .now) (l .number) (l .at) (l .times) (l .state) (l .index) (l .bytes)
     (λ j. f .before .before .before .before .shared-slice-known .given j .fits) (f .before .before .before .before .before .pre .0) (l .inv) (below t)
 
--- src/blocks.rt:33:9
 block-count-requires : tie.Need-block-count-requires Inv-loop μ-loop
 block-count-requires c κs = search needs
 
--- src/blocks.rt:34:9
 first-block-requires : tie.Need-first-block-requires Inv-loop μ-loop
 first-block-requires c κs = search needs
 
--- src/blocks.rt:39:5
 loop-holds : tie.Need-loop-holds Inv-loop μ-loop
 loop-holds c =
     let f = c in
@@ -57,7 +46,6 @@ loop-holds c =
     passing-first (a .image .now) (a .signal) (classNumber (a .class)) (a .write) (a .index .now) (a .bytes .now) (f .first-block .result)
     (λ j. f .before .before .before .before .shared-slice-known .given j .fits) (f .before .before .before .before .before .pre .0) (f .first-block .ensures)
 
--- src/blocks.rt:40:9
 load-block-requires : tie.Need-load-block-requires Inv-loop μ-loop
 load-block-requires c κs =
     let t = c .before .before in
@@ -80,15 +68,12 @@ load-block-requires c κs =
       ),
     )
 
--- src/blocks.rt:41:17
 first-index-requires : tie.Need-first-index-requires Inv-loop μ-loop
 first-index-requires c κs = c .before .before .before .before .before .before .before .before .loop .inv .many
 
--- src/blocks.rt:41:46
 times-in-requires : tie.Need-times-in-requires Inv-loop μ-loop
 times-in-requires c κs = (c .before .before .before .before .before .before .before .before .before .before .before .before .before .before .before .pre .0, (c .before .before .before .before .before .before .before .before .before .loop .number, found (c .before .before .before .before .before .before .before .before)))
 
--- src/blocks.rt:41:17
 add-times : tie.Need-add-times Inv-loop μ-loop
 add-times c =
     let t = c .before .before .before .before .before .before .before .before .before in
@@ -100,19 +85,15 @@ add-times c =
     let m = c .times-in .ensures (l .number) (found t) in
     omega (arith, c .before .first-index .ensures, base-small (l .number) (l .times), l .inv .early, n .0, n .1)
 
--- src/blocks.rt:42:9
 next-block-requires : tie.Need-next-block-requires Inv-loop μ-loop
 next-block-requires c κs = (c .before .before .before .before .before .before .before .before .before .before .before .before .before .before .before .before .pre .0, (c .before .before .before .before .before .before .before .before .before .before .loop .number, found (c .before .before .before .before .before .before .before .before .before)))
 
--- src/blocks.rt:43:9
 add-number : tie.Need-add-number Inv-loop μ-loop
 add-number c = omega (arith, c .before .before .before .before .before .before .before .before .before .before .loop-test .taken)
 
--- src/blocks.rt:39:5
 loop-less : tie.Need-loop-less Inv-loop μ-loop
 loop-less c = omega (arith, c .before .before .before .before .before .before .before .before .before .before .loop-test .taken)
 
--- src/blocks.rt:39:5
 loop-again : tie.Need-loop-again Inv-loop μ-loop
 loop-again c =
     let t = c .before .before .before .before .before .before .before .before .before .before in
@@ -128,21 +109,18 @@ loop-again c =
     (λ j. f .before .before .before .before .shared-slice-known .given j .fits) (f .before .before .before .before .before .pre .0) (l .inv) (below t)
     _ _ (c .before .before .before .before .before .before .before .load-block .result) _ _ sum (c .next-block .ensures (l .number) h) (e .0) (e .1) (e .2) (e .3)
 
--- src/blocks.rt:22:1
 same-length : tie.Need-same-length Inv-loop μ-loop
 same-length c =
     let l = c .before .loop in
     let a = c .before .before .before .before .before .before .before .args in
     passing-sizes (a .image .now) (a .signal) (classNumber (a .class)) (a .write) (a .index .now) (a .bytes .now) (l .number) (l .at) (l .times) (l .state) (l .index) (l .bytes) (l .inv) .0
 
--- src/blocks.rt:22:1
 same-length-2 : tie.Need-same-length-2 Inv-loop μ-loop
 same-length-2 c =
     let l = c .before .loop in
     let a = c .before .before .before .before .before .before .before .args in
     passing-sizes (a .image .now) (a .signal) (classNumber (a .class)) (a .write) (a .index .now) (a .bytes .now) (l .number) (l .at) (l .times) (l .state) (l .index) (l .bytes) (l .inv) .1
 
--- src/blocks.rt:22:1
 returns : tie.Need-returns Inv-loop μ-loop
 returns c =
     let l = c .before .loop in

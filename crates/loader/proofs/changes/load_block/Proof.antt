@@ -1,27 +1,17 @@
 -- The loop's invariant: what is still to come makes of the output what all changes of the block make of the one before them.
-use Prim.Native.Nat.{ℕ, suc, _+_, _-_, _≤_, _<_, max}
-use mathlib.Core.Path.{_≡_, refl, sym, ap, _∙_, subst}
-use mathlib.Core.List.{List}
+use Prim.Native.Nat.{_+_, _-_, _<_, max}
+use mathlib.Core.Path.{_≡_, refl, sym, ap, _∙_}
 use native.Mathlib.Omega.{arith}
 use lib.ListN.{length}
 use Rattle.value.specs.Class.{classNumber}
-use Rattle.loaded.specs.Opener.{blockAt, kindAt}
+use Rattle.loaded.specs.Opener.{blockAt}
 use Rattle.walk.specs.Walk.{imageIn}
-use Rattle.loader.specs.Blocks.{baseOf, topOf, changesIn}
-use Rattle.loader.specs.Output.{outputAs}
+use Rattle.loader.specs.Blocks.{baseOf, topOf}
 use Rattle.loader.proofs.StreamLaws.{Turn, change-room, going-on}
 use Rattle.loader.proofs.BlockLaws.{Begins, begins, base-small, Same, BlockGoing, going-first, room-there, block-done, block-turn, block-not-bad}
 use borrow.Author.Needs.{needs}
 use Rattle.loader.proofs.changes.load_block.Statement.{statement}
 use Rattle.loader.proofs.changes.load_block.Tie as tie
-use Rattle.loader.proofs.changes.load_block.Reads as reads
-use Rattle.loader.proofs.changes.load_block.Lts as lts
-use Rattle.loader.proofs.changes.first_index.Reads as first-index-reads
-use Rattle.loader.proofs.changes.raised.Reads as raised-reads
-use Rattle.loader.proofs.changes.take_change.Reads as take-change-reads
-use Rattle.stream.proofs.read.read_change.Reads as read-change-reads
-use Rattle.walk.proofs.head.kind_at.Reads as kind-at-reads
-use Rattle.walk.proofs.part.part_in.Reads as part-in-reads
 
 abbrev Inv-loop : tie.InvT-loop
 Inv-loop image number at signal class write times index₀ bytes₀ kind to p₀ i₀ state₀ index bytes p i state =
@@ -44,13 +34,13 @@ held : (c : tie.After-raised Inv-loop μ-loop) → Same (c .before .before .befo
 held c = let e = c .raised .ensures in record { count = e .1; used = e .2; last = e .3 }
 
 -- the change that was read
-guarded : (c : tie.After-known-told Inv-loop μ-loop) →
+turned : (c : tie.After-known-told Inv-loop μ-loop) →
     let r = c .before .before .before .before .before .before in
     let a = r .before .before .before .before .before .before .before .args in
     let d = c .before .d .given .0 in
     Turn (r .before .before .before .kind-at .result) (a .image .now) (length (blockAt (imageIn (a .image .now)) (a .number) .times)) (topOf (imageIn (a .image .now)) (a .number) (a .signal))
     (c .before .before .before .before .before .loop .p) (r .before .before .part-in .result .to) (c .before .before .before .before .before .loop .inv .1 .ahead) (d .0) (d .1 .0) (d .1 .1 .0)
-guarded c =
+turned c =
     let r = c .before .before .before .before .before .before in
     let a = r .before .before .before .before .before .before .before .args in
     let d = c .before .d .given .0 in
@@ -60,23 +50,18 @@ guarded c =
     (l .p) (l .i) (l .state) (l .index) (l .bytes) (d .0) (d .1 .0) (d .1 .1 .0) (λ j. r .before .before .before .before .before .before .shared-slice-known .given j .fits) (c .before .before .before .before .loop-test .taken) (l .inv .1)
     (sym (c .before .before .before .read-change .ensures) ∙ c .before .d .given .1)
 
--- src/changes.rt:160:9
 kind-at-requires : tie.Need-kind-at-requires Inv-loop μ-loop
 kind-at-requires c κs = search needs
 
--- src/changes.rt:161:9
 part-in-requires : tie.Need-part-in-requires Inv-loop μ-loop
 part-in-requires c κs = search needs
 
--- src/changes.rt:164:9
 first-index-requires : tie.Need-first-index-requires Inv-loop μ-loop
 first-index-requires c κs = search needs
 
--- src/changes.rt:165:9
 raised-requires : tie.Need-raised-requires Inv-loop μ-loop
 raised-requires c κs = search needs
 
--- src/changes.rt:166:5
 loop-holds : tie.Need-loop-holds Inv-loop μ-loop
 loop-holds c =
     let r = c in
@@ -87,31 +72,27 @@ loop-holds c =
           (r .before .first-index .result) (r .before .before .before .before .before .before .before .pre .0 .2) (r .before .first-index .ensures),
     )
 
--- src/changes.rt:167:15
 read-change-requires : tie.Need-read-change-requires Inv-loop μ-loop
 read-change-requires c κs = search needs
 
--- src/changes.rt:168:32
 enum-known-d : tie.Need-enum-known-d Inv-loop μ-loop
 enum-known-d c = search needs
 
--- src/changes.rt:169:17
 add-i : tie.Need-add-i Inv-loop μ-loop
 add-i c =
     let r = c .before .before .before .before .before .before in
     let a = r .before .before .before .before .before .before .before .args in
-    let t = guarded c in
+    let t = turned c in
     let k = known r in
     let j : c .before .before .before .before .before .loop .i + c .before .d .given .0 .0 ≡ baseOf (a .number) (a .times) + t .first .index = omega (arith, c .before .before .before .before .before .loop .inv .1 .at, t .index) in
     omega (arith, t .below, base-small (a .number) (a .times), r .before .before .before .before .before .before .before .pre .1 .1, k .place, k .end)
 
--- src/changes.rt:171:17
 take-change-requires : tie.Need-take-change-requires Inv-loop μ-loop
 take-change-requires c κs =
     let q = c .before .before in
     let r = q .before .before .before .before .before .before in
     let a = r .before .before .before .before .before .before .before .args in
-    let t = guarded q in
+    let t = turned q in
     let l = q .before .before .before .before .before .loop in
     let g = l .inv .1 in
     let k = known r in
@@ -126,19 +107,17 @@ take-change-requires c κs =
       ),
     )
 
--- src/changes.rt:166:5
 loop-less : tie.Need-loop-less Inv-loop μ-loop
 loop-less c =
-    let t = guarded (c .before .before .before .before .before .before .before) in
+    let t = turned (c .before .before .before .before .before .before .before) in
     omega (arith, t .later, t .within)
 
--- src/changes.rt:166:5
 loop-again : tie.Need-loop-again Inv-loop μ-loop
 loop-again c =
     let q = c .before .before .before .before .before .before .before in
     let r = q .before .before .before .before .before .before in
     let a = r .before .before .before .before .before .before .before .args in
-    let t = guarded q in
+    let t = turned q in
     let l = q .before .before .before .before .before .loop in
     let g = l .inv .1 in
     let d = q .before .d .given .0 in
@@ -148,19 +127,15 @@ loop-again c =
           (c .before .before .before .before .take-change .result) _ _ (e .0) (e .2) (e .3),
     )
 
--- src/changes.rt:174:17
 enum-told : tie.Need-enum-told Inv-loop μ-loop
 enum-told c = search needs
 
--- src/changes.rt:174:17
 same-length : tie.Need-same-length Inv-loop μ-loop
 same-length c = c .before .before .before .before .loop .inv .1 .index-size
 
--- src/changes.rt:174:17
 same-length-2 : tie.Need-same-length-2 Inv-loop μ-loop
 same-length-2 c = c .before .before .before .before .loop .inv .1 .bytes-size
 
--- src/changes.rt:174:17
 returns : tie.Need-returns Inv-loop μ-loop
 returns c =
     let r = c .before .before .before .before .before in
@@ -170,15 +145,12 @@ returns c =
     (a .state) (r .raised .result) (a .index .now) (a .bytes .now) (r .before .before .before .kind-at .ensures) (known r) (held r)
     (l .p) (l .i) (l .state) (l .index) (l .bytes) (λ j. r .before .before .before .before .before .before .shared-slice-known .given j .fits) (c .before .before .before .loop-test .taken) (l .inv .1) (sym (c .before .before .read-change .ensures) ∙ c .enum-told .given .1))
 
--- src/changes.rt:144:1
 same-length-3 : tie.Need-same-length-3 Inv-loop μ-loop
 same-length-3 c = c .before .loop .inv .1 .index-size
 
--- src/changes.rt:144:1
 same-length-4 : tie.Need-same-length-4 Inv-loop μ-loop
 same-length-4 c = c .before .loop .inv .1 .bytes-size
 
--- src/changes.rt:144:1
 returns-2 : tie.Need-returns-2 Inv-loop μ-loop
 returns-2 c =
     let r = c .before .before in

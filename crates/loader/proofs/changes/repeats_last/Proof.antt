@@ -1,5 +1,5 @@
 -- By whether a change is kept already.
-use mathlib.Core.Path.{_≡_, refl, sym, ap, _∙_, subst}
+use mathlib.Core.Path.{sym, ap, _∙_, subst}
 use Rattle.entry.specs.Read.{contentRead}
 use Rattle.loader.specs.Output.{repeatsKept, lastIn, LastReads}
 use borrow.Author.Needs.{needs}

@@ -1,11 +1,8 @@
 -- By the kind, and by what the first pass counts.
 use Prim.Native.Nat.{ℕ}
-use mathlib.Core.Path.{_≡_, refl, sym, ap, _∙_, subst}
-use mathlib.Core.Bool.{Bool, true, false}
-use mathlib.Core.List.{List}
+use mathlib.Core.Path.{_≡_, ap, _∙_}
 use native.Mathlib.Omega.{arith}
 use Rattle.value.specs.Class.{classNumber}
-use Rattle.signal.specs.declared.kind.SignalEncoding.{SignalEncoding}
 use Rattle.signal.specs.Kind.{knownKind}
 use Rattle.walk.specs.Walk.{imageIn}
 use Rattle.loader.proofs.LoadLaws.{Sized, sized, known, answer-unknown, Counted, counted, answer-short, room-all, answer-loaded}

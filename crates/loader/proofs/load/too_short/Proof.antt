@@ -1,4 +1,3 @@
-use mathlib.Core.Path.{_≡_, ap}
 use native.Mathlib.Omega.{arith}
 use Rattle.value.specs.Class.{classNumber}
 use Rattle.value.proofs.ClassLaws.{number-small}
