@@ -66,11 +66,11 @@ mixedCalls =
     ∷ change 9 (vcd [])  -- skipped
     ∷ time 3  -- cuts
     ∷ change 0 (vcd (49 ∷ 120 ∷ []))  -- "1x" again
-    ∷ change 0 (raw 2 (0x12 ∷ []))  -- and again, as a raw value of class Nine
+    ∷ change 0 (raw 2 (0x12 ∷ []))  -- and again, raw, claiming Nine
     ∷ change 0 (vcd (113 ∷ []))  -- 6
     ∷ change 3 (vcd [])  -- 4
     ∷ change 1 (vcd [])
-    ∷ change 0 (raw 2 (0x08 ∷ []))  -- "0-"
+    ∷ change 0 (vcd (48 ∷ 49 ∷ []))  -- "01"
     ∷ []
 
 -- two blocks, of times 1 2 and 2 3; the event's streams are 00 and 01
@@ -80,7 +80,7 @@ mixedImage =
     ++ (les 4 (68 ∷ 2 ∷ 4 ∷ 1 ∷ 4 ∷ 6 ∷ 0 ∷ []) ++ (les 8 (1 ∷ 2 ∷ [])
     ++ (0x01 ∷ 0x01 ∷ 0x06 ∷ 0x00 ∷ 0x00 ∷ 0x00 ∷ 0x01 ∷ le 8 0x8000000000000000 ++ (0x00 ∷ le 8 0
     ++ (les 4 (53 ∷ 2 ∷ 4 ∷ 1 ∷ 8 ∷ 0 ∷ 0 ∷ []) ++ (les 8 (2 ∷ 3 ∷ [])
-    ++ (0x02 ∷ 0x05 ∷ 0x06 ∷ 0x01 ∷ 0x06 ∷ 0x02 ∷ 0x08 ∷ 0x00 ∷ 0x01 ∷ [])))))))
+    ++ (0x02 ∷ 0x05 ∷ 0x06 ∷ 0x01 ∷ 0x06 ∷ 0x00 ∷ 0x01 ∷ 0x00 ∷ 0x01 ∷ [])))))))
 
 pub mixed-left : leftBy 2 4 mixed mixedCalls 153 ≡ mixedImage
 unfolding groups lebOf le unle symbolOf classOfAll allSymbols symbolsIn lastOr vcdBit textOf extended textSymbols numberOf digits packed unpacked rawSymbols decode changeBytes les dataOf offsetsFrom blockBytes headBytes wayOf itemsOf gather unknownKind startTests stateTests partsFrom cutOf timeOf changeOf finishOf startOf step run
@@ -121,7 +121,7 @@ two x y h k = (cons-bytes x (y ∷ []) h (cons-bytes y [] k no-bytes), omega ari
 
 mixed-fits : Fitting mixedCalls
 unfolding Fitting
-mixed-fits = ((omega arith, one 49 (omega arith)), (omega arith, ((omega arith, two 49 120 (omega arith) (omega arith)), ((omega arith, empty), (omega arith, ((omega arith, omega arith), ((omega arith, omega arith), (omega arith, ((omega arith, one 113 (omega arith)), (omega arith, ((omega arith, empty), (omega arith, ((omega arith, two 49 120 (omega arith) (omega arith)), ((omega arith, (omega arith, one 0x12 (omega arith))), ((omega arith, one 113 (omega arith)), ((omega arith, empty), ((omega arith, empty), ((omega arith, (omega arith, one 0x08 (omega arith))), tt))))))))))))))))))
+mixed-fits = ((omega arith, one 49 (omega arith)), (omega arith, ((omega arith, two 49 120 (omega arith) (omega arith)), ((omega arith, empty), (omega arith, ((omega arith, omega arith), ((omega arith, omega arith), (omega arith, ((omega arith, one 113 (omega arith)), (omega arith, ((omega arith, empty), (omega arith, ((omega arith, two 49 120 (omega arith) (omega arith)), ((omega arith, (omega arith, one 0x12 (omega arith))), ((omega arith, one 113 (omega arith)), ((omega arith, empty), ((omega arith, empty), ((omega arith, two 48 49 (omega arith) (omega arith)), tt))))))))))))))))))
 
 pub mixed-recorded : Recorded 2 4 mixed mixedCalls 153
 unfolding groups lebOf le unle symbolOf classOfAll allSymbols symbolsIn lastOr vcdBit textOf extended textSymbols numberOf digits packed unpacked rawSymbols decode changeBytes les dataOf offsetsFrom blockBytes headBytes wayOf itemsOf gather unknownKind startTests stateTests partsFrom cutOf timeOf changeOf finishOf startOf step run
@@ -132,7 +132,7 @@ mixedReplies =
     calls.refuse 3 ∷ say taken ∷ say recorded ∷ say recorded ∷ say taken ∷ say recorded ∷ say recorded ∷ say back ∷ say skipped ∷ say calls.same ∷ say skipped
     ∷ say taken ∷ say recorded ∷ say recorded ∷ calls.refuse 6 ∷ calls.refuse 4 ∷ say recorded ∷ say recorded ∷ []
 
-pub mixed-replies : (ranFrom 2 4 mixed mixedCalls .replies ≡ mixedReplies) × (ranFrom 2 4 mixed mixedCalls .last .state .skipped ≡ 2)
+pub mixed-replies : (ranFrom 2 4 mixed mixedCalls .replies ≡ mixedReplies) × (step (ranFrom 2 4 mixed mixedCalls .last) finish .memory .state .skipped ≡ 2)
 unfolding groups lebOf le unle symbolOf classOfAll allSymbols symbolsIn lastOr vcdBit textOf extended textSymbols numberOf digits packed unpacked rawSymbols decode changeBytes les dataOf offsetsFrom blockBytes headBytes wayOf itemsOf gather unknownKind startTests stateTests partsFrom cutOf timeOf changeOf finishOf startOf step run
 mixed-replies = (refl, refl)
 
@@ -144,7 +144,7 @@ pub mixed-told : (mixedTold .answers ≡ heard mixedReplies) × (mixedTold .last
 unfolding symbolOf classOfAll allSymbols symbolsIn lastOr vcdBit textOf extended textSymbols numberOf digits unpacked rawSymbols decode wayOf tell tellAll same listOf keptAfter kept topOf
 mixed-told = (refl, refl, refl)
 
-pub mixed-kept : (keptOf (mixedTold .last) 0 ≡ entry 0 (symbols (1 ∷ 2 ∷ [])) ∷ entry 2 (symbols (0 ∷ 8 ∷ [])) ∷ [])
+pub mixed-kept : (keptOf (mixedTold .last) 0 ≡ entry 0 (symbols (1 ∷ 2 ∷ [])) ∷ entry 2 (symbols (0 ∷ 1 ∷ [])) ∷ [])
     × (keptOf (mixedTold .last) 1 ≡ entry 0 happened ∷ entry 2 happened ∷ [])
     × (keptOf (mixedTold .last) 2 ≡ entry 1 (bits 0x8000000000000000) ∷ entry 1 (bits 0) ∷ [])
     × (classOf (mixedTold .last) 0 ≡ 2) × (classOf (mixedTold .last) 1 ≡ 0) × (classOf (mixedTold .last) 2 ≡ 0)
@@ -154,7 +154,7 @@ mixed-kept = (refl, refl, refl, refl, refl, refl)
 -- the image loads as these: at width 2, C Nine, a class byte precedes one byte
 pub mixed-loads : (openOf mixedImage ≡ true)
     × (tableOf mixedImage (9 ∷ 9 ∷ 9 ∷ 9 ∷ []) ≡ tableAfter (counted 3) (1 ∷ 2 ∷ 3 ∷ 9 ∷ []))
-    × (loadOf mixedImage 0 (9 ∷ 9 ∷ 9 ∷ []) (replicate 5 9) ≡ loadAfter (loaded 2 2) (0 ∷ 2 ∷ 9 ∷ []) (0x40 ∷ 0x06 ∷ 0x80 ∷ 0x08 ∷ 9 ∷ []))
+    × (loadOf mixedImage 0 (9 ∷ 9 ∷ 9 ∷ []) (replicate 5 9) ≡ loadAfter (loaded 2 2) (0 ∷ 2 ∷ 9 ∷ []) (0x40 ∷ 0x06 ∷ 0x00 ∷ 0x01 ∷ 9 ∷ []))
     × (loadOf mixedImage 1 (9 ∷ 9 ∷ []) [] ≡ loadAfter (loaded 2 0) (0 ∷ 2 ∷ []) [])
     × (loadOf mixedImage 2 (9 ∷ 9 ∷ []) (replicate 16 9) ≡ loadAfter (loaded 2 0) (1 ∷ 1 ∷ []) (0 ∷ 0 ∷ 0 ∷ 0 ∷ 0 ∷ 0 ∷ 0 ∷ 0x80 ∷ replicate 8 0))
     × (loadOf mixedImage 3 (9 ∷ []) (9 ∷ []) ≡ loadAfter (reader.refuse 4) (9 ∷ []) (9 ∷ []))

@@ -58,6 +58,7 @@ ranFrom limit signals m calls = run (startOf limit signals m .memory) calls
 -- "any list of a recording's calls (time; VCD, raw and real change; finish), refused and skipped ones included, from an accepted start to
 -- an accepted finish"
 pub record Recorded (limit signals : ℕ) (m : Memory) (calls : List Call) (size : ℕ) : Type 0 where
+  -- no condition of ours: what the types of state, records, slices and arguments can hold
   pub lent : Lent m
   pub fitting : Fitting calls
   pub start : startOf limit signals m .reply ≡ started

@@ -119,7 +119,8 @@ shownBy (shown.Real f) b = real f b
 abbrev pub entryReply : declared.Entry → Shown
 entryReply e = shownBy (e .value) (e .bits)
 
--- the class is the value's own; the bits are 0 but for a real
+-- the class is the value's own; the bits are 0 but for a real. Of a NaN's pattern the f64 is the logic's one NaN: its payload is not
+-- promised; the bits are exact
 abbrev pub shownAs : Content → Shown
 shownAs happened = event 0
 shownAs (symbols s) = vector (classOfAll s) 0

@@ -194,6 +194,7 @@ pub fn load_block(
                     bytes,
                 );
             }
+            // an accepted image has no such stream
             ReadChange::Bad => {
                 return state;
             }

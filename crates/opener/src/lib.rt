@@ -71,7 +71,7 @@ fn is_head(image: &[u8]) -> bool
     kinds_known(image, signals)
 }
 
-// At the start no signal has a top class above 0.
+// At the start no signal has a top class above 0. A loop of ours clears the array, so that the proof need not know what a new one holds.
 fn clear(tops: &mut [u8])
     ensures { λ r. ⌜ (length (now (tops .exit)) ≡ length (now (tops .entry))) × ((i : ℕ) → getD (now (tops .exit)) i 0 ≡ 0) ⌝ }
 {

@@ -118,6 +118,7 @@ fn top_after(s: &[u8], base: usize, offset: SignalDataOffset, before: u8) -> u8
     if stored == 0 {
         return before;
     }
+    // in no accepted block
     if s.len() - base < stored {
         return 0;
     }
