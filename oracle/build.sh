@@ -1,10 +1,15 @@
 #!/bin/bash
 # Builds the oracle: the Rust sources of the crate wellen, two edits, a driver
 # and stand-ins. Prints every difference between the sources and their copy.
-#   WELLEN_SRC    folder that holds the sources' src (default: beside the repository)
-#   ORACLE_BUILD  build folder, made anew but for its target folder
-#                 (default: the repository's target/oracle)
-# The program is then ORACLE_BUILD/oracle.
+#   WELLEN_SRC      folder that holds the sources' src (default: beside the repository)
+#   ORACLE_BUILD    build folder, made anew but for its target folder
+#                   (default: the repository's target/oracle)
+#   ORACLE_COPY     if it is set, only the copy is made, and nothing is built
+#   WEJUMO_LIB      folder of the wave memory's static library; if it is set, the
+#                   program that compares the two is built too
+# The program is then ORACLE_BUILD/oracle, the other ORACLE_BUILD/differential.
+# Ends with status 77 where the sources, cargo or the packages are not there;
+# with the word `packages`, this is all that it looks for.
 set -euo pipefail
 
 here=$(cd "$(dirname "$0")" && pwd)
@@ -16,39 +21,47 @@ fail() {
     exit 1
 }
 
-[ -f "$source/wavemem.rs" ] || fail "no wavemem.rs in $source (set WELLEN_SRC)"
-command -v cargo >/dev/null || fail "no cargo"
+missing() {
+    echo "$*" >&2
+    exit 77
+}
+
+[ -f "$source/wavemem.rs" ] || missing "no wavemem.rs in $source (set WELLEN_SRC)"
+command -v cargo >/dev/null || missing "no cargo"
 
 # Packages.
 
 packages='librust-indexmap-dev librust-memmap2-dev librust-miniz-oxide-dev
     librust-num-enum-dev librust-rayon-dev librust-rustc-hash-dev
     librust-smallvec-dev librust-thiserror-dev'
-missing=
+wanted=
 for package in $packages; do
     dpkg-query -W -f '${Status}' "$package" 2>/dev/null | grep -q 'ok installed' ||
-        missing="$missing $package"
+        wanted="$wanted $package"
 done
-install_missing() {
+install_wanted() {
     DEBIAN_FRONTEND=noninteractive \
-        apt-get install -y -qq --no-install-recommends $missing >/dev/null
+        timeout 100 apt-get install -y -qq --no-install-recommends $wanted >/dev/null
 }
-if [ -n "$missing" ]; then
-    echo "installing$missing"
-    install_missing || { apt-get update -qq && install_missing; } || fail "apt-get failed"
+if [ -n "$wanted" ]; then
+    echo "installing$wanted"
+    install_wanted 2>&1 || { timeout 100 apt-get update -qq && install_wanted; } || missing "packages missing:$wanted"
 fi
 registry=$(dpkg -L librust-smallvec-dev | sed -n '\|/cargo/registry$|p')
-[ -d "$registry" ] || fail "Debian's registry folder not found"
+[ -d "$registry" ] || missing "Debian's registry folder not found"
+[ "${1-}" != packages ] || exit 0
 
 # The copy.
 
 mkdir -p "$build"
 build=$(cd "$build" && pwd)
-rm -rf "$build/src" "$build/standins" "$build/.cargo" "$build/Cargo.lock" "$build/oracle"
+rm -rf "$build/src" "$build/standins" "$build/wejumo" "$build/.cargo" "$build/Cargo.lock" \
+    "$build/oracle" "$build/differential"
 cp -R "$source" "$build/src"
 chmod -R u+w "$build/src"
 cp "$here/Cargo.toml" "$build/"
-mkdir "$build/standins" "$build/.cargo"
+mkdir "$build/standins" "$build/wejumo" "$build/.cargo"
+cp -R "$here/../bindings/rust/." "$build/wejumo/"
 cp -R "$here/standins/fst-reader" "$here/standins/leb128" "$here/standins/lz4_flex" \
     "$here/standins/rustc-hash" "$build/standins/"
 
@@ -91,8 +104,13 @@ add() {
 
 add driver/main.rs bin/oracle.rs
 add driver/wavemem.rs wavemem/oracle.rs
+add driver/parts.rs wavemem/oracle/parts.rs
 add driver/recordings.rs wavemem/oracle/recordings.rs
+add driver/whole.rs wavemem/oracle/whole.rs
 add driver/signal.rs signal/oracle.rs
+for module in "$here"/driver/differential/*.rs; do
+    add "driver/differential/${module##*/}" "bin/differential/${module##*/}"
+done
 add standins/modules/ghw.rs ghw.rs
 add standins/modules/simple.rs simple.rs
 add standins/modules/stream.rs stream.rs
@@ -107,7 +125,17 @@ replace-with = "debian"
 [source.debian]
 directory = "$registry"
 END
-(cd "$build" && cargo build --quiet --offline --bins --target-dir "$build/target")
+[ -z "${ORACLE_COPY-}" ] || exit 0
+features=
+if [ -n "${WEJUMO_LIB-}" ]; then
+    features='--features differential'
+    export WEJUMO_LIB=$(cd "$WEJUMO_LIB" && pwd)
+fi
+(cd "$build" && cargo build --quiet --offline --bins $features --target-dir "$build/target")
 cp "$build/target/debug/oracle" "$build/oracle"
 "$build/oracle" selftest
 echo "built $build/oracle"
+if [ -n "$features" ]; then
+    cp "$build/target/debug/differential" "$build/differential"
+    echo "built $build/differential"
+fi

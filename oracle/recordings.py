@@ -1,5 +1,5 @@
 #!/usr/bin/env python3
-# Seed of the stored list: 20012.
+# Seeds of the stored list: 20012 and 20014.
 """Writes recordings without a refusal, for `oracle recordings`; `recorder.py` says the form.
 
   recordings.py                   the stored list, always the same
@@ -12,7 +12,9 @@ import sys
 from questions import BITS, REALS, raw_length
 
 SEED = 20012
-STORED = 240
+STORED = 240       # of up to 38 calls
+SHORT_SEED = 20014
+SHORT = 280        # of up to 16 calls
 LETTERS = "01xzhuwl-"
 TOP_TIME = 2**64 - 1
 
@@ -243,7 +245,8 @@ def stored():
     recordings = [special(line) for line in SPECIAL.strip().split("\n")]
     while len(recordings) < STORED:
         recordings.append(random_recording(rng, small_kind, 38))
-    return recordings
+    rng = random.Random(SHORT_SEED)
+    return recordings + [random_recording(rng, small_kind, 16) for _ in range(SHORT)]
 
 
 def main():

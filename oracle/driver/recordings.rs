@@ -6,10 +6,10 @@ use std::fs::File;
 use std::os::fd::{AsFd, AsRawFd};
 
 /// A signal's kind; absent signals exist in the Rust only as derived ones.
-type Kind = Option<SignalEncoding>;
+pub(super) type Kind = Option<SignalEncoding>;
 
 /// What an image has for a kind.
-fn kind_number(kind: &Kind) -> u32 {
+pub(super) fn kind_number(kind: &Kind) -> u32 {
     match kind {
         Some(SignalEncoding::BitVector(width)) => *width,
         Some(SignalEncoding::Real) => 0xffff_fffe,
@@ -26,14 +26,14 @@ fn kind(word: &str) -> Option<Kind> {
     }
 }
 
-enum Call {
+pub(super) enum Call {
     Start(BlockTimeIdx, Vec<Kind>),
     Time(Time),
     Change(usize, Change),
     Finish,
 }
 
-fn call(line: &str) -> Option<Call> {
+pub(super) fn call(line: &str) -> Option<Call> {
     let words: Vec<&str> = line.split(' ').collect();
     Some(match words[..] {
         ["start", signals, limit, ..] => {
@@ -60,7 +60,7 @@ fn call(line: &str) -> Option<Call> {
 }
 
 /// A hierarchy with these signals; an absent one stands there as a bit.
-fn hierarchy(kinds: &[Kind]) -> Hierarchy {
+pub(super) fn hierarchy(kinds: &[Kind]) -> Hierarchy {
     let mut builder = HierarchyBuilder::default();
     for kind in kinds {
         builder.new_signal(kind.unwrap_or(SignalEncoding::BitVector(1)));
@@ -68,7 +68,7 @@ fn hierarchy(kinds: &[Kind]) -> Hierarchy {
     builder.finish()
 }
 
-fn start(limit: BlockTimeIdx, kinds: &[Kind]) -> Encoder {
+pub(super) fn start(limit: BlockTimeIdx, kinds: &[Kind]) -> Encoder {
     set_block_limit(limit);
     let mut encoder = Encoder::new(&hierarchy(kinds));
     assert_eq!(encoder.signals.len(), kinds.len());
@@ -81,7 +81,7 @@ fn start(limit: BlockTimeIdx, kinds: &[Kind]) -> Encoder {
     encoder
 }
 
-fn time(encoder: &mut Encoder, time: Time) -> &'static str {
+pub(super) fn time(encoder: &mut Encoder, time: Time) -> &'static str {
     let look = |e: &Encoder| {
         (
             e.blocks.len(),
@@ -110,7 +110,7 @@ fn waiting(encoder: &Encoder) -> usize {
     signals.map(|signal| signal.data.len()).sum()
 }
 
-fn change(encoder: &mut Encoder, signal: usize, change: &Change) -> &'static str {
+pub(super) fn change(encoder: &mut Encoder, signal: usize, change: &Change) -> &'static str {
     let (before, skipping) = (waiting(encoder), encoder.skipping_time_step);
     let id = SignalRef::from_index(signal).unwrap();
     match change {
@@ -126,7 +126,7 @@ fn change(encoder: &mut Encoder, signal: usize, change: &Change) -> &'static str
 /// The blocks that `finish` hands to its `Reader`. It hides them, so they are
 /// made from a clone by the call that `finish` begins with; the table that
 /// `finish` answers must be theirs.
-fn finish(encoder: Encoder) -> Vec<Block> {
+pub(super) fn finish(encoder: Encoder) -> Vec<Block> {
     let mut clone = encoder.clone();
     clone.finish_block();
     let (_, table) = encoder.finish();
@@ -178,6 +178,14 @@ fn shown(value: SignalValueRef<'_>) -> String {
     }
 }
 
+/// All entries as the Rust shows them.
+pub(super) fn shown_values(signal: &Signal) -> Vec<String> {
+    signal
+        .iter_changes()
+        .map(|(_, value)| shown(value))
+        .collect()
+}
+
 /// What the `SignalSource` that `finish` answers loads, absent signals left out.
 /// It does not tell the class of an event or a real, so the class is asked of a
 /// `Reader` on the same blocks; a vector's must be the one that its `Signal` has.
@@ -198,11 +206,16 @@ fn write_loads(out: &mut impl Write, kinds: &[Kind], encoder: Encoder) {
         assert!(signal.max_states().is_none_or(|own| own == class));
         let indices = signal.time_indices();
         let (number, count) = (id.index(), indices.len());
-        write!(out, "signal {number} entries {count} class {}:", class as u8).unwrap();
+        write!(
+            out,
+            "signal {number} entries {count} class {}:",
+            class as u8
+        )
+        .unwrap();
         write!(out, "{}", joined(indices.iter().map(u32::to_string))).unwrap();
         let bytes = Some(hex(entry_bytes(signal))).filter(|bytes| !bytes.is_empty());
         writeln!(out, "{}", joined(bytes.into_iter())).unwrap();
-        let values = joined(signal.iter_changes().map(|(_, value)| shown(value)));
+        let values = joined(shown_values(signal).into_iter());
         writeln!(out, "signal {number} values:{values}").unwrap();
     }
 }
@@ -273,7 +286,7 @@ unsafe extern "C" {
 
 /// Standard output for the answers alone: the Rust prints a warning there at
 /// each time that goes back, and such lines are dropped.
-fn answers_only() -> File {
+pub(super) fn answers_only() -> File {
     let out = std::io::stdout().as_fd().try_clone_to_owned().unwrap();
     let nowhere = File::options().write(true).open("/dev/null").unwrap();
     assert_eq!(unsafe { dup2(nowhere.as_raw_fd(), 1) }, 1);

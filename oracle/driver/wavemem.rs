@@ -9,7 +9,9 @@ use std::panic::{AssertUnwindSafe, catch_unwind};
 use std::sync::LazyLock;
 use std::sync::atomic::{AtomicBool, AtomicU16, Ordering::Relaxed};
 
+mod parts;
 mod recordings;
+pub mod whole;
 pub use recordings::{Wanted, recordings};
 
 // The limit B, the number of times that a block holds.
@@ -382,6 +384,7 @@ pub fn selftest() {
     let expected = expected.replace(' ', "").to_lowercase();
     assert_eq!(hex(&image(&widths, &encoder.blocks)), expected);
 
+    parts::selftest();
     recordings::selftest();
 
     println!("selftest passed");

@@ -17,9 +17,12 @@ use Rattle.lists.proofs.SetsLaws.{sets-append}
 use Rattle.numbers.specs.LittleEndian.{le, unle}
 use Rattle.numbers.proofs.LittleEndianLaws.{length-le}
 use Rattle.value.specs.Class.{classNumber}
+use Rattle.value.specs.declared.states.States.the-variants.{Two}
+use Rattle.signal.specs.declared.kind.SignalEncoding.the-variants.{Absent}
 use Rattle.image.specs.Block.{les}
+use Rattle.recording.specs.declared.SignalRecord.{SignalRecord}
 use Rattle.recording.specs.Work.{Item, item, itemsOf}
-use Rattle.storage.specs.Storage.{recordFrom, recordsOf}
+use Rattle.recording.specs.Memory.{recordOf}
 use Rattle.work.proofs.WorkLaws.{Turn}
 use Rattle.block.specs.Given.{topsOf}
 use Rattle.block.specs.Passes.{keptAt, keep, clear, count, begun, nextPart, begin, scatter, settled, endOf, settle, Counts, Begins, Scatters, Settles}
@@ -105,25 +108,27 @@ pub begun-part : (d o g top n : ℕ) (t t' : List ℕ) → n ≡ keptAt g t → 
     → t' ≡ begun d o g top t
 begun-part d o g top n t t' e z p = let q = ne-eqb (keptAt g t) 0 (λ h. z (e ∙ h)) in rw (q, p) refl
 
--- the first of the signals that are left, by their stored records
-pub begins-here : (d o g : ℕ) (ns t : List ℕ) → g < length ns → Begins d o g (topsOf (recordsOf (drop g ns))) t
+-- the first of the signals that are left, by their records
+pub begins-here : (d o g : ℕ) (rs : List SignalRecord) (t : List ℕ) → g < length rs → Begins d o g (topsOf (drop g rs)) t
     → (d + nextPart o g t ≤ length t) × (nextPart o g t < 4294967296)
 unfolding Begins
-begins-here d o g ns t h b =
-    let b' = rw (drop-cons ns g 0 h) at b in
+begins-here d o g rs t h b =
+    let b' = rw (drop-cons rs g (recordOf Absent 0 Two) h) at b in
     (b' .0, b' .1)
 
-module _ (d o g : ℕ) (ns t : List ℕ) (o' : ℕ) (t' : List ℕ) (h : g < length ns) (p : o' ≡ nextPart o g t)
-    (e : t' ≡ begun d o g (classNumber (recordFrom (getD ns g 0) .top)) t) where
-  pub begin-turn : begin d o' (g + 1) (topsOf (recordsOf (drop (g + 1) ns))) t' ≡ begin d o g (topsOf (recordsOf (drop g ns))) t
-  unfolding begin
-  begin-turn = rw (drop-cons ns g 0 h, p, e, add-one g) refl
+module _ (d o g : ℕ) (rs : List SignalRecord) (t : List ℕ) (h : g < length rs) where
+  abbrev top : ℕ
+  top = classNumber (getD rs g (recordOf Absent 0 Two) .top)
 
-  pub begins-turn : Begins d o g (topsOf (recordsOf (drop g ns))) t → Begins d o' (g + 1) (topsOf (recordsOf (drop (g + 1) ns))) t'
+  pub begin-turn : begin d (nextPart o g t) (suc g) (topsOf (drop (suc g) rs)) (begun d o g top t) ≡ begin d o g (topsOf (drop g rs)) t
+  unfolding begin
+  begin-turn = rw (drop-cons rs g (recordOf Absent 0 Two) h) refl
+
+  pub begins-turn : Begins d o g (topsOf (drop g rs)) t → Begins d (nextPart o g t) (suc g) (topsOf (drop (suc g) rs)) (begun d o g top t)
   unfolding Begins
   begins-turn b =
-      let b' = rw (drop-cons ns g 0 h) at b in
-      rw (p, e, add-one g) (b' .2)
+      let b' = rw (drop-cons rs g (recordOf Absent 0 Two) h) at b in
+      b' .2
 
 -- ---- scatter
 

@@ -17,7 +17,7 @@ use Rattle.recording.specs.Work.{Item}
 use Rattle.recording.specs.Step.{partsFrom}
 use Rattle.work.specs.Measure.{dataLength}
 use Rattle.work.proofs.WorkLaws.{Below}
-use Rattle.block.specs.Given.{topsOf, passed, Passable}
+use Rattle.block.specs.Given.{topsOf, closed, Closes}
 use Rattle.block.specs.Passes.{clear, count, begin, scatter, settle, Counts, Begins, Scatters, Settles}
 use Rattle.block.proofs.SizeLaws.{length-data, length-parts, length-les, length-offsets}
 use Rattle.block.proofs.LayoutLaws.{raw, laid, sets-front, sets-after}
@@ -38,23 +38,24 @@ headOf s t n = le 4 (blockSize s t n) ++ (le 4 t ++ le 4 s)
 abbrev pub prepared : (signals : ℕ) → (ts : List ℕ) → (bytes : ℕ) → List ℕ → List ℕ
 prepared s ts n t = sets (sets t 0 (headOf s (length ts) n)) (12 + 4 * s) (les 8 ts)
 
--- what the passes do to t: they end at t′
+-- what the passes do to t, in which the head and the times stand: they end at t′
 pub record Writes (d s : ℕ) (tops : List ℕ) (is : List Item) (t t′ : List ℕ) : Type 0 where
-  pub inside : Passable d s tops is t
-  pub written : passed d s tops is t ≡ t′
+  pub counts : Counts is (clear 0 s t)
+  pub begins : Begins d 0 0 tops (count is (clear 0 s t))
+  pub closes : Closes d s is (begin d 0 0 tops (count is (clear 0 s t)))
+  pub written : closed d s is (begin d 0 0 tops (count is (clear 0 s t))) ≡ t′
 
 -- pass by pass
 chain : (d s : ℕ) (tops : List ℕ) (is : List Item) (t t₁ t₂ t₃ t₄ t₅ : List ℕ) → clear 0 s t ≡ t₁ → Counts is t₁ → count is t₁ ≡ t₂
     → Begins d 0 0 tops t₂ → begin d 0 0 tops t₂ ≡ t₃ → Scatters d is t₃ → scatter d is t₃ ≡ t₄ → Settles 0 0 s t₄ → settle 0 0 s t₄ ≡ t₅
     → Writes d s tops is t t₅
 chain d s tops is t t₁ t₂ t₃ t₄ t₅ e₁ c e₂ b e₃ a e₄ l e₅ =
-    let p : Passable d s tops is t = record {
+    record {
       counts = rw e₁ c;
       begins = rw (e₁, e₂) b;
-      scatters = rw (e₁, e₂, e₃) a;
-      settles = rw (e₁, e₂, e₃, e₄) l;
-    } in
-    record { inside = p; written = rw (e₁, e₂, e₃, e₄) e₅ }
+      closes = (rw (e₁, e₂, e₃) a, rw (e₁, e₂, e₃, e₄) l);
+      written = rw (e₁, e₂, e₃, e₄) e₅;
+    }
 
 -- ---- the bytes before the first pass and after the last
 

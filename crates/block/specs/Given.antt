@@ -1,14 +1,18 @@
--- What a block is made of, as contracts name it: the records of the work and the signals' top classes; and the passes one after the other.
+-- What a block is made of, as contracts name it: the records of the work and the signals' top classes; and the passes before and after the
+-- one over the signals' records.
 -- Assumes nothing.
-use Prim.Native.Nat.{ℕ}
+use Prim.Native.Nat.{ℕ, _+_, _*_}
 use mathlib.Core.Path.{_≡_}
-use mathlib.Core.List.{List, [], map}
+use mathlib.Core.List.{List, [], _++_, map}
 use mathlib.Core.Option.{Option, some, none}
 use lib.ListN.{length}
+use lib.Seq.{sets}
+use Rattle.numbers.specs.LittleEndian.{le}
 use Rattle.value.specs.Class.{classNumber}
+use Rattle.image.specs.Block.{les}
 use Rattle.recording.specs.declared.SignalRecord.{SignalRecord}
 use Rattle.recording.specs.Work.{Item, itemsOf}
-use Rattle.block.specs.Passes.{clear, count, begin, scatter, settle, Counts, Begins, Scatters, Settles}
+use Rattle.block.specs.Passes.{clear, count, scatter, settle, Counts, Scatters, Settles}
 
 abbrev pub orNone : Option (List Item) → List Item
 orNone none = []
@@ -24,13 +28,21 @@ Divides n w = itemsOf (length w) n w ≡ some (itemsIn n w)
 abbrev pub topsOf : List SignalRecord → List ℕ
 topsOf rs = map (λ r. classNumber (r .top)) rs
 
--- what the passes make of the bytes t, in which the head and the times stand; the data start at byte d
-abbrev pub passed : (d signals : ℕ) → (tops : List ℕ) → List Item → List ℕ → List ℕ
-passed d s tops is t = settle 0 0 s (scatter d is (begin d 0 0 tops (count is (clear 0 s t))))
+-- the bytes t with the head and the times
+abbrev pub fronted : (size held signals : ℕ) → (times : List ℕ) → List ℕ → List ℕ
+fronted size held s ts t = sets (sets t 0 (le 4 size ++ (le 4 held ++ le 4 s))) (12 + 4 * s) (les 8 ts)
+
+-- the passes before the parts begin: head, times, and each signal's stream bytes counted
+abbrev pub opened : (size held signals : ℕ) → (times : List ℕ) → List Item → List ℕ → List ℕ
+opened size held s ts is t = count is (clear 0 s (fronted size held s ts t))
+
+-- the passes after it: each record's bytes in their place, then the offsets; the data start at byte d
+abbrev pub closed : (d signals : ℕ) → List Item → List ℕ → List ℕ
+closed d s is t = settle 0 0 s (scatter d is t)
 
 -- what keeps them inside t and their numbers inside 32 bits
-pub record Passable (d s : ℕ) (tops : List ℕ) (is : List Item) (t : List ℕ) : Type 0 where
-  pub counts : Counts is (clear 0 s t)
-  pub begins : Begins d 0 0 tops (count is (clear 0 s t))
-  pub scatters : Scatters d is (begin d 0 0 tops (count is (clear 0 s t)))
-  pub settles : Settles 0 0 s (scatter d is (begin d 0 0 tops (count is (clear 0 s t))))
+abbrev pub Opens : (size held signals : ℕ) → (times : List ℕ) → List Item → List ℕ → Type 0
+Opens size held s ts is t = Counts is (clear 0 s (fronted size held s ts t))
+
+abbrev pub Closes : (d signals : ℕ) → List Item → List ℕ → Type 0
+Closes d s is t = Scatters d is t × Settles 0 0 s (scatter d is t)

@@ -3,7 +3,6 @@ use image::SignalDataOffset;
 use numbers::little_endian::get_u32;
 use numbers::little_endian::put_u32;
 use numbers::little_endian::put_u64;
-use storage::record_from;
 use value::states::States;
 ghost use mathlib.Core.Path.{_≡_};
 ghost use Prim.Native.Nat.{_+_, _*_, _≤_, _<_};
@@ -11,9 +10,8 @@ ghost use lib.ListN.{length, take, drop};
 ghost use lib.Seq.{sets};
 ghost use Rattle.value.specs.Class.{classNumber};
 ghost use Rattle.image.specs.Block.{les};
-ghost use Rattle.storage.specs.Storage.{recordsOf};
-ghost use Rattle.block.specs.Passes.{keptAt, keep, clear, count, begun, nextPart, begin, scatter, endOf, settled, settle, Counts, Begins, Scatters, Settles};
-ghost use Rattle.block.specs.Given.{itemsIn, Divides, topsOf};
+ghost use Rattle.block.specs.Passes.{keptAt, keep, clear, count, begun, nextPart, scatter, endOf, settled, settle, Counts, Scatters, Settles};
+ghost use Rattle.block.specs.Given.{itemsIn, Divides};
 
 // The number kept for signal g.
 fn kept_for(tail: &[u8], g: usize) -> u32
@@ -96,21 +94,6 @@ pub fn begin_part(tail: &mut [u8], d: usize, o: usize, g: usize, top: States) ->
     tail[d + o] = top.number();
     keep_for(tail, g, (o + 1) as u32);
     o + 1 + n
-}
-
-// The parts of all signals begin one after the other, by the signals' numbers.
-pub fn begin_parts(tail: &mut [u8], d: usize, records: &[u64])
-    requires { ⌜ (12 + 4 * length (now records) ≤ d) × Begins d 0 0 (topsOf (recordsOf (now records))) (now tail) ⌝ }
-    ensures { λ _. ⌜ now (tail .exit) ≡ begin d 0 0 (topsOf (recordsOf (now (records .entry)))) (now (tail .entry)) ⌝ }
-{
-    let mut o: usize = 0;
-    let mut g: usize = 0;
-    while g < records.len() {
-        let record = record_from(records[g]);
-        let top = record.top;
-        o = begin_part(tail, d, o, g, top);
-        g += 1;
-    }
 }
 
 // Each record's bytes go to its signal's next place.

@@ -32,7 +32,7 @@ use Rattle.parts.specs.Parts as found
 use Rattle.parts.specs.Parts.{Parts, parts, partsFrom, startOf, atZero, areParts, signals, kindsAt, topsRead}
 use Rattle.parts.proofs.SignalLaws.{signals-topped, kinds-length, topped-length}
 use Rattle.parts.proofs.TopsLaws.{found-is, SameTops, topped-same}
-use Rattle.blocks.specs.Blocks.{nextBlock, blockAt, sizeIn, timesIn, signalsIn, tests, frontTests, frontAt, afterTimes, bodyAt}
+use Rattle.blocks.specs.Blocks.{nextBlock, nextBlockAt, sizeIn, timesIn, signalsIn, tests, frontTests, frontAt, afterTimes, bodyAt}
 use Rattle.blocks.specs.declared.BlockFront.{BlockFront}
 use Rattle.blocks.specs.declared.BlockFront.the-variants as front
 use Rattle.blocks.specs.declared.NextBlock.{NextBlock}
@@ -138,8 +138,8 @@ front-says S limit follow s at z n x p q =
 -- ---- the code's answers
 
 module _ (limit : ℕ) (ks : List SignalEncoding) (later : Bool) (end : ℕ) (tops : List ℕ) (follow : ℕ) (s : List ℕ) (at : ℕ) (y : Bytes s) (inside : at ≤ length s) where
-  pub block-wrong : (x : BlockFront) → x ≡ frontAt (length ks) limit follow s at → x ≡ front.Wrong → Wrong ≡ blockAt limit ks (endOf later end) tops follow s at
-  unfolding frontAt blockAt
+  pub block-wrong : (x : BlockFront) → x ≡ frontAt (length ks) limit follow s at → x ≡ front.Wrong → Wrong ≡ nextBlockAt limit ks (endOf later end) tops follow s at
+  unfolding frontAt nextBlockAt
   block-wrong x p q =
       sym (ap (nextBlock (length s)) (block-get limit ks (endOf later end) tops follow s at y inside)
       ∙ by (leb (at + (12 + 4 * length ks)) (length s)) (eqb (length ks) (signalsIn s at)) (leb (blockSize (length ks) (timesIn s at) 0) (sizeIn s at)) (isYes (filled? limit (timesIn s at) follow))
@@ -187,8 +187,8 @@ module _ (limit : ℕ) (ks : List SignalEncoding) (later : Bool) (end : ℕ) (to
   place-is p r h e = let l = ap length e in omega (arith, length-drop p s)
 
   body-core : (x : BlockFront) (z n : ℕ) → x ≡ frontAt (length ks) limit follow s at → x ≡ front.Sizes z n → signals (length ks) s 16 tops 0 ≡ topped ks tops
-      → blockAt limit ks (endOf later end) tops follow s at ≡ bodyAt (length ks) (sizeIn s at) (timesIn s at) s at later end tops
-  unfolding bodyAt blockAt areParts frontAt
+      → nextBlockAt limit ks (endOf later end) tops follow s at ≡ bodyAt (length ks) (sizeIn s at) (timesIn s at) s at later end tops
+  unfolding bodyAt nextBlockAt areParts frontAt
   body-core x z n p q k =
       let w = front-says (length ks) limit follow s at z n x p q in
       let r : at + sizeIn s at ≤ length s = rw (w .size) (w .room) in
@@ -205,7 +205,7 @@ module _ (limit : ℕ) (ks : List SignalEncoding) (later : Bool) (end : ℕ) (to
       ∙ ap₂ (λ (b : ℕ) (K : List (SignalEncoding × ℕ)). afterTimes (timesAt c s t later end) (atZero (startOf (partsFrom (drop b s) m c (firstIndex (endOf later end)) K (uints 4 (length ks) s (at + 12))))) (at + sizeIn s at)) base-is (sym k)
 
   pub block-body : (x : BlockFront) (z n : ℕ) → x ≡ frontAt (length ks) limit follow s at → x ≡ front.Sizes z n → signals (length ks) s 16 tops 0 ≡ topped ks tops
-      → bodyAt (length ks) z n s at later end tops ≡ blockAt limit ks (endOf later end) tops follow s at
+      → bodyAt (length ks) z n s at later end tops ≡ nextBlockAt limit ks (endOf later end) tops follow s at
   block-body x z n p q k =
       let w = front-says (length ks) limit follow s at z n x p q in
       sym (body-core x z n p q k ∙ ap₂ (λ (z n : ℕ). bodyAt (length ks) z n s at later end tops) (w .size) (w .times))
@@ -219,8 +219,8 @@ module _ (limit : ℕ) (ks : List SignalEncoding) (later : Bool) (end : ℕ) (to
     pub room : p ≤ length s
     pub front : at + blockSize (length ks) (timesIn s at) 0 ≤ length s
 
-  pub block-step : (x : NextBlock) (p u : ℕ) → x ≡ blockAt limit ks (endOf later end) tops follow s at → x ≡ At p u → Step p u
-  unfolding blockAt
+  pub block-step : (x : NextBlock) (p u : ℕ) → x ≡ nextBlockAt limit ks (endOf later end) tops follow s at → x ≡ At p u → Step p u
+  unfolding nextBlockAt
   block-step x p u e f =
       by (leb (at + (12 + 4 * length ks)) (length s)) (eqb (length ks) (signalsIn s at)) (leb (blockSize (length ks) (timesIn s at) 0) (sizeIn s at)) refl (isYes (filled? limit (timesIn s at) follow))
       (leb (at + sizeIn s at) (length s)) refl (Yes (endOf later end) (topped ks tops) s (at + (12 + 4 * length ks)) (timesIn s at)) (blockParts limit ks (endOf later end) tops follow s at y inside) refl
@@ -259,8 +259,8 @@ module _ (limit : ℕ) (ks : List SignalEncoding) (later : Bool) (end : ℕ) (to
 
 -- top classes count for the signals only
 pub block-same : (limit : ℕ) (ks : List SignalEncoding) (end : Option ℕ) (l tops : List ℕ) (follow : ℕ) (s : List ℕ) (at : ℕ) → SameTops (length ks) l tops
-    → blockAt limit ks end l follow s at ≡ blockAt limit ks end tops follow s at
-unfolding blockAt walkBlock
+    → nextBlockAt limit ks end l follow s at ≡ nextBlockAt limit ks end tops follow s at
+unfolding nextBlockAt walkBlock
 block-same limit ks end l tops follow s at h =
     ap (λ (K : List (SignalEncoding × ℕ)). nextBlock (length s) (header (walkLayout limit (length ks) follow) (layoutOf ks)
     (λ y. via (pair (walkTimes end (y .count)) (each (walkPart (y .count) (firstIndex end)) K (y .lens))) (λ x. some (block (x .0) (x .1))) (λ b. (b .times, b .parts))) .get (drop at s)))
@@ -272,10 +272,10 @@ module _ (S limit follow : ℕ) (later : Bool) (end : ℕ) (tops : List ℕ) (s 
   here : x ≡ frontAt (length (kindsAt S s 16)) limit follow s at
   here = p ∙ ap (λ (S : ℕ). frontAt S limit follow s at) (sym (kinds-length S s 16))
 
-  pub kinds-wrong : x ≡ front.Wrong → Wrong ≡ blockAt limit (kindsAt S s 16) (endOf later end) tops follow s at
+  pub kinds-wrong : x ≡ front.Wrong → Wrong ≡ nextBlockAt limit (kindsAt S s 16) (endOf later end) tops follow s at
   kinds-wrong q = block-wrong limit (kindsAt S s 16) later end tops follow s at y inside x here q
 
-  pub kinds-body : (z n : ℕ) (r : NextBlock) → x ≡ front.Sizes z n → r ≡ bodyAt S z n s at later end tops → r ≡ blockAt limit (kindsAt S s 16) (endOf later end) tops follow s at
+  pub kinds-body : (z n : ℕ) (r : NextBlock) → x ≡ front.Sizes z n → r ≡ bodyAt S z n s at later end tops → r ≡ nextBlockAt limit (kindsAt S s 16) (endOf later end) tops follow s at
   kinds-body z n r q e =
       e ∙ ap (λ (S : ℕ). bodyAt S z n s at later end tops) (sym (kinds-length S s 16))
       ∙ block-body limit (kindsAt S s 16) later end tops follow s at y inside x z n here q

@@ -7,9 +7,7 @@ use mathlib.Core.List.{List, [], _∷_}
 use mathlib.Core.Option.{Option, some, none}
 use native.Mathlib.Omega.{arith}
 use native.Mathlib.Decide.{decLt}
-use borrow.Author.Tests.{ltb-true}
-use lib.Dec.{ltb}
-use lib.ListN.{length, take, drop, length-append, length-drop}
+use lib.ListN.{length, drop, length-append, length-drop}
 use Rattle.lists.specs.Bytes.{Bytes}
 use Rattle.lists.specs.Choice.{pick}
 use Rattle.lists.specs.Got.{Got, bad, got}
@@ -20,9 +18,10 @@ use Rattle.image.specs.Block.{Part, Block, block}
 use Rattle.form.specs.Form.{andThen, gotIf, ifYes, pair, via, each}
 use Rattle.form.specs.Decide.{both}
 use Rattle.form.proofs.FormLaws.{each-laws}
-use Rattle.codec.specs.Layout.{Laid, ill, laid, without, starting, lengths, dataSize, Layout, layout}
+use Rattle.codec.specs.Layout.{Laid, ill, laid, lengths, dataSize, Layout, layout}
 use Rattle.codec.specs.Valid.{begins?, rising?, firstIndex}
 use Rattle.codec.specs.Walk.{walkPart, walkTimes}
+use Rattle.codec.proofs.LayoutLaws.{lengths-is}
 use Rattle.codec.proofs.WalkBlock.{walk-part-laws}
 use Rattle.reading.specs.Decided.{isYes, uints}
 use Rattle.reading.proofs.PlaceLaws.{uints-at, uints-short}
@@ -52,43 +51,6 @@ parts-size n i (k ∷ ks) (some m ∷ ls) (p ∷ ps) o =
     let e = part-size n i k m p (o .0) in
     let f = parts-size n i ks ls ps (o .1) in
     omega (arith, length-append (walkPart n i k (some m) .put p) (each (walkPart n i) ks ls .put ps))
-
--- lengths add up to the data
-no-laid : {B : Type 0} {a : ℕ} {l : List (Option ℕ)} → ill ≡ laid a l → B
-no-laid e = let z : _≡_ {A = ℕ} 0 1 = cc in absurd (omega arith)
-
-sum-eq : (a b m : ℕ) (l k : List (Option ℕ)) → laid b k ≡ laid a l → b + dataSize k ≡ m → a + dataSize l ≡ m
-sum-eq a b m l k e h = let p : b ≡ a = cc in let q : k ≡ l = cc in rw (← p, ← q) h
-
-data-none : (l : List (Option ℕ)) → dataSize (none ∷ l) ≡ dataSize l
-unfolding dataSize
-data-none l = refl
-
-data-some : (m : ℕ) (l : List (Option ℕ)) → dataSize (some m ∷ l) ≡ suc m + dataSize l
-unfolding dataSize
-data-some m l = refl
-
-data-nil : dataSize [] ≡ 0
-unfolding dataSize
-data-nil = refl
-
-sum-is : (m : ℕ) (os : List ℕ) (a : ℕ) (l : List (Option ℕ)) → lengths m os ≡ laid a l → a + dataSize l ≡ m
-unfolding lengths
-sum-is m [] a l e = sum-eq a m m l [] e (omega (arith, data-nil))
-sum-is m (zero ∷ os) a l e = by (lengths m os) refl e (λ b k q. sum-is m os b k q)
-  where
-    by : (L : Laid) → lengths m os ≡ L → without L ≡ laid a l → ((b : ℕ) (k : List (Option ℕ)) → lengths m os ≡ laid b k → b + dataSize k ≡ m) → a + dataSize l ≡ m
-    by ill q e f = no-laid e
-    by (laid b k) q e f = let h = f b k q in sum-eq a b m l (none ∷ k) e (omega (arith, data-none k))
-sum-is m (suc o ∷ os) a l e = by (lengths m os) refl e (λ b k q. sum-is m os b k q)
-  where
-    by-place : (b : ℕ) (k : List (Option ℕ)) (t : Bool) → ltb o b ≡ t → pick t (laid o (some (b - suc o) ∷ k)) ill ≡ laid a l → b + dataSize k ≡ m → a + dataSize l ≡ m
-    by-place b k false t e h = no-laid e
-    by-place b k true t e h = let g = ltb-true o b t in sum-eq a o m l (some (b - suc o) ∷ k) e (omega (arith, data-some (b - suc o) k))
-
-    by : (L : Laid) → lengths m os ≡ L → starting o L ≡ laid a l → ((b : ℕ) (k : List (Option ℕ)) → lengths m os ≡ laid b k → b + dataSize k ≡ m) → a + dataSize l ≡ m
-    by ill q e f = no-laid e
-    by (laid b k) q e f = by-place b k (ltb o b) refl e (f b k q)
 
 -- no parts without room for them
 each-short : (n i : ℕ) (ks : Signals) (l : List (Option ℕ)) (d : List ℕ) → Bytes d → length d < dataSize l → each (walkPart n i) ks l .get d ≡ bad
@@ -180,5 +142,5 @@ module _ (end : Option ℕ) (ks : Signals) (s : List ℕ) (at n : ℕ) where
 
       by : (L : Laid) → lengths m os ≡ L → laidBody n body (drop at s) L ≡ bad
       by ill e = refl
-      by (laid zero l) e = short l (let q = sum-is m os 0 l e in omega arith) (decLt (length s) (at + 8 * n))
+      by (laid zero l) e = short l (let q = lengths-is m os 0 l e .sum in omega arith) (decLt (length s) (at + 8 * n))
       by (laid (suc a) l) e = ap (λ (t : Bool). pick t (body (layout n l) (drop at s)) bad) (not-first a)

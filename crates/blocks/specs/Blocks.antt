@@ -30,8 +30,8 @@ abbrev pub nextBlock : (n : ℕ) → Got (Block (List Entry)) → NextBlock
 nextBlock n bad = Wrong
 nextBlock n (got b r) = At (n - length r) (lastOr 0 (b .times))
 
-unfoldable pub blockAt : (limit : ℕ) → List SignalEncoding → (end : Option ℕ) → (tops : List ℕ) → (follow : ℕ) → List ℕ → (at : ℕ) → NextBlock
-blockAt limit ks end tops follow s at = nextBlock (length s) (walkBlock limit ks end tops follow .get (drop at s))
+unfoldable pub nextBlockAt : (limit : ℕ) → List SignalEncoding → (end : Option ℕ) → (tops : List ℕ) → (follow : ℕ) → List ℕ → (at : ℕ) → NextBlock
+nextBlockAt limit ks end tops follow s at = nextBlock (length s) (walkBlock limit ks end tops follow .get (drop at s))
 
 -- the numbers in front of a block's offsets
 abbrev pub sizeIn : List ℕ → (at : ℕ) → ℕ

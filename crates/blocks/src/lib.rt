@@ -13,7 +13,7 @@ ghost use Rattle.codec.specs.Valid.{firstIndex, filled?};
 ghost use Rattle.reading.specs.Decided.{isYes, endOf};
 ghost use Rattle.parts.specs.Parts.{kindsAt};
 ghost use Rattle.image.specs.Block.{blockSize};
-ghost use Rattle.blocks.specs.Blocks.{timesIn, frontAt, bodyAt, blockAt, blockTops};
+ghost use Rattle.blocks.specs.Blocks.{timesIn, frontAt, bodyAt, nextBlockAt, blockTops};
 
 // How many bytes and how many times a block has, or no block.
 pub enum BlockFront {
@@ -120,7 +120,7 @@ pub fn block_at(
     tops: &[u8],
 ) -> NextBlock
     requires { ⌜ (at ≤ length (now s)) × (signals ≤ 65536) × (limit ≤ 65535) × (16 + 4 * signals ≤ length (now s)) × (signals ≤ length (now tops)) ⌝ }
-    ensures { λ r. ⌜ r ≡ blockAt limit (kindsAt signals (now (s .entry)) 16) (endOf later end) (now (tops .entry)) follow (now (s .entry)) at ⌝ }
+    ensures { λ r. ⌜ r ≡ nextBlockAt limit (kindsAt signals (now (s .entry)) 16) (endOf later end) (now (tops .entry)) follow (now (s .entry)) at ⌝ }
 {
     match front_at(s, at, signals, limit, follow) {
         BlockFront::Sizes(size, times) => body_at(s, at, signals, size, times, later, end, tops),

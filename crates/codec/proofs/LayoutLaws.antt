@@ -28,9 +28,9 @@ lengths-of a (some m ∷ l) =
     let d : a + suc m - suc a ≡ m = omega arith in
     rw (e, lengths-of (a + suc m) l, lt-ltb a (a + suc m) (omega arith), d) refl
 
-record Laying (n : ℕ) (os : List ℕ) (a : ℕ) (l : List (Option ℕ)) : Type 0 where
-  same : offsets a l ≡ os
-  sum : a + dataSize l ≡ n
+pub record Laying (n : ℕ) (os : List ℕ) (a : ℕ) (l : List (Option ℕ)) : Type 0 where
+  pub same : offsets a l ≡ os
+  pub sum : a + dataSize l ≡ n
 
 ill-laid : {B : Type 0} {a : ℕ} {l : List (Option ℕ)} → ill ≡ laid a l → B
 ill-laid e = let z : _≡_ {A = ℕ} 0 1 = cc in absurd (omega arith)
@@ -48,7 +48,7 @@ more-some n a e os l h w =
     let q : a + suc (e - suc a) ≡ e = omega arith in
     record { same = rw (q, w .same) refl; sum = omega (arith, w .sum) }
 
-lengths-is : (n : ℕ) (os : List ℕ) (a : ℕ) (l : List (Option ℕ)) → lengths n os ≡ laid a l → Laying n os a l
+pub lengths-is : (n : ℕ) (os : List ℕ) (a : ℕ) (l : List (Option ℕ)) → lengths n os ≡ laid a l → Laying n os a l
 unfolding offsets dataSize lengths
 lengths-is n [] a l e = laying-eq e (record { same = refl; sum = add-zero n })
 lengths-is n (zero ∷ os) a l e = by-rest (lengths n os) refl e (λ b m q. lengths-is n os b m q)

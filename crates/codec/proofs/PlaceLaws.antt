@@ -1,7 +1,7 @@
 -- Where things stand in an image's bytes: the blocks after the head, a block after the others, the data of a block, the part of a signal
 -- in it, and in front of its stream the class byte.
 -- Assumes nothing.
-use Prim.Native.Nat.{ℕ, zero, suc, _+_, _*_, _<_}
+use Prim.Native.Nat.{ℕ, zero, suc, _+_, _<_}
 use mathlib.Core.Path.{_≡_, refl, sym, ap, _∙_}
 use mathlib.Core.List.{List, [], _∷_, _++_, append-assoc}
 use mathlib.Core.Option.{Option, some, none}
@@ -10,15 +10,13 @@ use native.Mathlib.Omega.{arith}
 use lib.ListN.{length, drop, getD, length-append}
 use lib.Seq.{drop-append-add, drop-at}
 use Rattle.numbers.specs.LittleEndian.{le}
-use Rattle.numbers.proofs.LittleEndianLaws.{length-le}
 use Rattle.signal.specs.declared.kind.SignalEncoding.{SignalEncoding}
 use Rattle.stream.specs.Entries.{Entry}
 use Rattle.image.specs.Block.{Part, Block, block, les, partBytes, dataOf, offsetsFrom, blockSize, blockBytes}
 use Rattle.image.specs.Head.{headSize, headBytes}
 use Rattle.image.specs.Image.{Image, streamed, blocksBytes, imageBytes}
-use Rattle.codec.specs.Layout.{lengthsIn}
-use Rattle.codec.proofs.LayoutLaws.{offsets-parts, count-parts, count-offsets}
-use Rattle.codec.proofs.ImageFits.{length-les, head-size}
+use Rattle.form.proofs.WholeLaws.{none-some}
+use Rattle.codec.proofs.ImageFits.{block-size, head-size}
 use Rattle.codec.specs.ImageForm.{headOf}
 
 -- ---- a signal's part in the data
@@ -33,9 +31,6 @@ pub record PartAt (g a : ℕ) (ps : List (Option (Part (List ℕ)))) (p : Part (
   pub offset : getD (offsetsFrom a ps) g 0 ≡ suc (a + partStart g ps)
   pub rest : List ℕ
   pub bytes : drop (partStart g ps) (dataOf ps) ≡ partBytes (some p) ++ rest
-
-none-is : {B : Type 0} {p : Part (List ℕ)} → none ≡ some p → B
-none-is e = let z : _≡_ {A = ℕ} 0 1 = cc in absurd (omega arith)
 
 part-here : (a : ℕ) (p : Part (List ℕ)) (ps : List (Option (Part (List ℕ)))) → PartAt zero a (some p ∷ ps) p
 unfolding partStart dataOf offsetsFrom
@@ -54,8 +49,8 @@ part-some g a q p ps w = record {
 }
 
 pub part-at : (g a : ℕ) (ps : List (Option (Part (List ℕ)))) (p : Part (List ℕ)) → getD ps g none ≡ some p → PartAt g a ps p
-part-at g a [] p e = none-is e
-part-at zero a (none ∷ ps) p e = none-is e
+part-at g a [] p e = none-some e
+part-at zero a (none ∷ ps) p e = none-some e
 part-at zero a (some q ∷ ps) p e = let q' : q ≡ p = cc in rw q' (part-here a p ps)
 part-at (suc g) a (none ∷ ps) p e = part-none g a p ps (part-at g a ps p e)
 part-at (suc g) a (some q ∷ ps) p e = part-some g a q p ps (part-at g (a + length (partBytes (some q))) ps p e)
@@ -65,28 +60,20 @@ pub offset-none : (g a : ℕ) (ps : List (Option (Part (List ℕ)))) → getD ps
 unfolding offsetsFrom
 offset-none g a [] e = refl
 offset-none zero a (none ∷ ps) e = refl
-offset-none zero a (some q ∷ ps) e = none-is (sym e)
+offset-none zero a (some q ∷ ps) e = none-some (sym e)
 offset-none (suc g) a (none ∷ ps) e = offset-none g a ps e
 offset-none (suc g) a (some q ∷ ps) e = offset-none g (a + length (partBytes (some q))) ps e
 
 -- ---- the data of a block
 
 pub data-at : (b : Block (List ℕ)) → drop (blockSize (length (b .parts)) (length (b .times)) 0) (blockBytes b) ≡ dataOf (b .parts)
-unfolding blockBytes
 data-at b =
     let s : ℕ = length (b .parts) in
     let t : ℕ = length (b .times) in
-    let z : ℕ = blockSize s t (length (dataOf (b .parts))) in
-    let o : List ℕ = les 4 (offsetsFrom 0 (b .parts)) in
-    let ts : List ℕ = les 8 (b .times) in
     let d : List ℕ = dataOf (b .parts) in
-    let front : List ℕ = le 4 z ++ (le 4 t ++ (le 4 s ++ (o ++ ts))) in
-    let lo : length o ≡ s * 4 = length-les 4 (offsetsFrom 0 (b .parts)) ∙ ap (λ (l : List ℕ). length l * 4) (offsets-parts 0 (b .parts))
-    ∙ ap (λ (n : ℕ). n * 4) (count-offsets 0 (lengthsIn (b .parts)) ∙ count-parts (b .parts)) in
-    let n : length front ≡ blockSize s t 0 =
-    length-append (le 4 z) (le 4 t ++ (le 4 s ++ (o ++ ts)))
-    ∙ omega (arith, length-append (le 4 t) (le 4 s ++ (o ++ ts)), length-append (le 4 s) (o ++ ts), length-append o ts, lo, length-les 8 (b .times), length-le 4 z, length-le 4 t, length-le 4 s) in
-    let all : le 4 z ++ (le 4 t ++ (le 4 s ++ (o ++ (ts ++ d)))) ≡ front ++ d = simp append-assoc in
+    let front : List ℕ = le 4 (blockSize s t (length d)) ++ (le 4 t ++ (le 4 s ++ (les 4 (offsetsFrom 0 (b .parts)) ++ les 8 (b .times)))) in
+    let all : blockBytes b ≡ front ++ d = unfold blockBytes in simp append-assoc in
+    let n : length front ≡ blockSize s t 0 = omega (arith, ap length all, length-append front d, block-size b) in
     ap (drop (blockSize s t 0)) all ∙ drop-at front d (blockSize s t 0) n
 
 -- ---- blocks after the head

@@ -92,7 +92,7 @@ stream-is k none = refl
 stream-is k (some p) = refl
 
 pub passing-begins : (n : ℕ) (k : SignalEncoding) (b : List ℕ) (g at from to top t : ℕ) (start : Pointing) → Bytes b → Opened b → BlockHere n at b → k ≡ kindAt (imageIn b) g
-    → PartHere from to top (kindAt (imageIn b) g) (partAt (blockAt (imageIn b) n) g) b → PointReads k b start → start .count ≤ at → Passing k b g at to t start start from 0
+    → PartHere from to top n g b → PointReads k b start → start .count ≤ at → Passing k b g at to t start start from 0
 passing-begins n k b g at from to top t start y o h e f r c =
     let x = imageIn b in
     let q = parts-here n at b y o h in

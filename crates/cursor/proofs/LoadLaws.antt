@@ -14,7 +14,7 @@ use Rattle.lists.specs.Choice.{pick}
 use Rattle.lists.specs.Last.{lastOr}
 use Rattle.signal.specs.declared.kind.SignalEncoding.{SignalEncoding}
 use Rattle.signal.specs.declared.kind.SignalEncoding.the-variants.{Absent}
-use Rattle.stream.specs.Entries.{Entry, entry, streamBytes}
+use Rattle.stream.specs.Entries.{Entry, streamBytes}
 use Rattle.stream.specs.Stream.{changeBytes}
 use Rattle.image.specs.Block.{Part, Block, partBytes, dataOf}
 use Rattle.image.specs.Image.{streamedPart, streamedParts}

@@ -4,9 +4,9 @@ use Prim.Native.Nat.{ℕ, zero, suc, _+_, _≤_, _<_}
 use mathlib.Core.Path.{_≡_, refl, sym, ap, _∙_}
 use mathlib.Core.Bool.{Bool, true, false, _||_}
 use mathlib.Core.List.{List, [], _∷_, _++_}
-use mathlib.Core.Option.{Option, some, none}
+use mathlib.Core.Option.{Option, some}
 use native.Mathlib.Omega.{arith}
-use borrow.Author.Tests.{le-leb, lt-leb, eq-eqb, ne-eqb}
+use borrow.Author.Tests.{ne-eqb}
 use lib.Dec.{eqb, leb}
 use lib.ListN.{length, getD}
 use Rattle.lists.specs.Choice.{pick}
@@ -14,12 +14,9 @@ use Rattle.signal.specs.Content.{Content}
 use Rattle.stream.specs.Entries.{Entry}
 use Rattle.loaded.specs.Loading.{repeatsLast, pushed}
 use Rattle.loaded.specs.Reader.{lastBefore}
-use Rattle.cursor.specs.Point.{Point, point, unpointed, repeatsKept, keptAt, passed, allPassed}
-
-abbrev pub lastContent : List Entry → Option Content
-lastContent [] = none
-lastContent (e ∷ []) = some (e .content)
-lastContent (e ∷ f ∷ es) = lastContent (f ∷ es)
+use Rattle.entry.specs.Kept.{repeatsKept, lastContent}
+use Rattle.entry.proofs.KeptLaws.{repeats-last, last-more, count-more}
+use Rattle.cursor.specs.Point.{Point, point, unpointed, keptAt, passed, allPassed}
 
 -- these entries are kept and number n of them is pointed to
 abbrev pub pointingTo : (times : List ℕ) → List Entry → (n : ℕ) → (past : Entry) → Point
@@ -30,21 +27,6 @@ holding ts t [] = unpointed
 holding ts t (e ∷ es) = pointingTo ts (e ∷ es) (lastBefore ts t 0 0 (e ∷ es)) e
 
 -- ---- one entry more
-
-count-more : (es : List Entry) (e : Entry) → length (es ++ e ∷ []) ≡ suc (length es)
-count-more [] e = refl
-count-more (a ∷ es) e = ap suc (count-more es e)
-
-last-more : (es : List Entry) (e : Entry) → lastContent (es ++ e ∷ []) ≡ some (e .content)
-last-more [] e = refl
-last-more (a ∷ []) e = refl
-last-more (a ∷ b ∷ es) e = last-more (b ∷ es) e
-
-repeats-last : (es : List Entry) (c : Content) → repeatsKept (lastContent es) c ≡ repeatsLast es c
-unfolding repeatsLast
-repeats-last [] c = refl
-repeats-last (a ∷ []) c = refl
-repeats-last (a ∷ b ∷ es) c = repeats-last (b ∷ es) c
 
 at-end : (es : List Entry) (e d : Entry) → getD (es ++ e ∷ []) (length es) d ≡ e
 at-end [] e d = refl
@@ -162,20 +144,12 @@ module _ (t : ℕ) (s : Point) (u : ℕ) (c : Content) (r : Bool) (e : r ≡ rep
   one-more : (n i v : ℕ) (l a : Option Content) → n ≡ s .count → point (n + 1) l i v a ≡ point (suc (s .count)) l i v a
   one-more n i v l a h = let z : n + 1 ≡ suc (s .count) = omega arith in rw z refl
 
-  pub passed-first : r ≡ false → s .count ≡ 0 → point 1 (some c) 0 u (some c) ≡ passed t s u c
-  passed-first f h = by (s .count) h (eqb (s .count) 0) (eq-eqb (s .count) 0 h) ∙ passed-kept f
-    where
-      by : (n : ℕ) → n ≡ 0 → (b : Bool) → b ≡ true → point 1 (some c) 0 u (some c) ≡ pick (b || leb u t) (point (suc n) (some c) n u (some c)) (point (suc n) (some c) (s .number) (s .time) (s .content))
-      by n e b h = rw (e, h) refl
+  module _ (q : Bool) (d : q ≡ (eqb (s .count) 0 || leb u t)) where
+    decided : (b : Bool) → q ≡ b → pick b (point (suc (s .count)) (some c) (s .count) u (some c)) (point (suc (s .count)) (some c) (s .number) (s .time) (s .content)) ≡ keptAt t s u c
+    decided b h = rw (← h, d) refl
 
-  pub passed-at : r ≡ false → (s .count ≡ 0 → ⊥) → u ≤ t → point (s .count + 1) (some c) (s .count) u (some c) ≡ passed t s u c
-  passed-at f h k = one-more (s .count) (s .count) u (some c) (some c) refl ∙ by (eqb (s .count) 0) (leb u t) (ne-eqb (s .count) 0 h) (le-leb u t k) ∙ passed-kept f
-    where
-      by : (a b : Bool) → a ≡ false → b ≡ true → point (suc (s .count)) (some c) (s .count) u (some c) ≡ pick (a || b) (point (suc (s .count)) (some c) (s .count) u (some c)) (point (suc (s .count)) (some c) (s .number) (s .time) (s .content))
-      by a b h k = rw (h, k) refl
+    pub passed-to : r ≡ false → q ≡ true → point (s .count + 1) (some c) (s .count) u (some c) ≡ passed t s u c
+    passed-to f h = one-more (s .count) (s .count) u (some c) (some c) refl ∙ decided true h ∙ passed-kept f
 
-  pub passed-after : r ≡ false → (s .count ≡ 0 → ⊥) → t < u → point (s .count + 1) (some c) (s .number) (s .time) (s .content) ≡ passed t s u c
-  passed-after f h k = one-more (s .count) (s .number) (s .time) (some c) (s .content) refl ∙ by (eqb (s .count) 0) (leb u t) (ne-eqb (s .count) 0 h) (lt-leb u t k) ∙ passed-kept f
-    where
-      by : (a b : Bool) → a ≡ false → b ≡ false → point (suc (s .count)) (some c) (s .number) (s .time) (s .content) ≡ pick (a || b) (point (suc (s .count)) (some c) (s .count) u (some c)) (point (suc (s .count)) (some c) (s .number) (s .time) (s .content))
-      by a b h k = rw (h, k) refl
+    pub passed-over : r ≡ false → q ≡ false → point (s .count + 1) (some c) (s .number) (s .time) (s .content) ≡ passed t s u c
+    passed-over f h = one-more (s .count) (s .number) (s .time) (some c) (s .content) refl ∙ decided false h ∙ passed-kept f

@@ -2,7 +2,7 @@
 -- Laws (proofs/PointLaws, proofs/LoadLaws): all blocks make of it the entry that `lastBefore` finds among those that loading keeps.
 -- Assumes nothing.
 use Prim.Native.Nat.{ℕ, suc}
-use mathlib.Core.Bool.{Bool, false, _||_}
+use mathlib.Core.Bool.{_||_}
 use mathlib.Core.List.{List, [], _∷_}
 use mathlib.Core.Option.{Option, some, none}
 use lib.ListN.{getD}
@@ -10,13 +10,11 @@ use lib.Dec.{eqb, leb}
 use Rattle.lists.specs.Choice.{pick}
 use Rattle.signal.specs.declared.kind.SignalEncoding.{SignalEncoding}
 use Rattle.signal.specs.Content.{Content}
-use Rattle.stream.specs.Entries.{Entry, repeats}
+use Rattle.stream.specs.Entries.{Entry}
 use Rattle.image.specs.Block.{Block}
 use Rattle.loaded.specs.Opener.{partAt}
 use Rattle.loaded.specs.Loading.{entriesIn}
-use Rattle.entry.specs.Read.{contentRead, Reads}
-use Rattle.cursor.specs.declared.point.KeptChange.{KeptChange}
-use Rattle.cursor.specs.declared.point.KeptChange.the-variants as kept
+use Rattle.entry.specs.Kept.{repeatsKept, keptContent, KeptReads}
 use Rattle.cursor.specs.declared.point.Pointing.{Pointing}
 
 -- how many entries are kept, the content of the last of them; the number, the time and the content of the one that is pointed to
@@ -32,11 +30,6 @@ point n l i t c = record { count = n; last = l; number = i; time = t; content = 
 
 abbrev pub unpointed : Point
 unpointed = point 0 none 0 0 none
-
--- a content repeats that of the last kept entry
-abbrev pub repeatsKept : Option Content → Content → Bool
-repeatsKept none c = false
-repeatsKept (some a) c = repeats a c
 
 -- an entry more is kept: pointed to if it is the first, or its time is at or before t
 abbrev pub keptAt : (t : ℕ) → Point → (time : ℕ) → Content → Point
@@ -60,17 +53,8 @@ blocksPassed t g s (y ∷ ys) = blocksPassed t g (allPassed (y .times) t s (entr
 
 -- ---- what the code holds of it: changes by their places in the image
 
-abbrev pub contentIn : SignalEncoding → (image : List ℕ) → KeptChange → Option Content
-contentIn k b kept.Nothing = none
-contentIn k b (kept.Change v n) = some (contentRead k b v n)
-
--- reading answered it
-abbrev pub ChangeReads : SignalEncoding → (image : List ℕ) → KeptChange → Type 0
-ChangeReads k b kept.Nothing = Unit {0}
-ChangeReads k b (kept.Change v n) = Reads k b v n
-
 abbrev pub pointAs : SignalEncoding → (image : List ℕ) → Pointing → Point
-pointAs k b s = point (s .count) (contentIn k b (s .last)) (s .number) (s .time) (contentIn k b (s .found))
+pointAs k b s = point (s .count) (keptContent k b (s .last)) (s .number) (s .time) (keptContent k b (s .found))
 
 abbrev pub PointReads : SignalEncoding → (image : List ℕ) → Pointing → Type 0
-PointReads k b s = ChangeReads k b (s .last) × ChangeReads k b (s .found)
+PointReads k b s = KeptReads k b (s .last) × KeptReads k b (s .found)

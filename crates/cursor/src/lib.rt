@@ -1,31 +1,19 @@
 // The cursor over an accepted image: document 01, 'Loaded signal'.
 //
-// One pass over a signal's changes, repeats dropped as in loading, that remembers the last entry with time at or before t (point.rt); then
-// that entry's value (shown.rt). Nothing is loaded. What the pass does is specs/Point.antt; that it finds the entry which `cursorIn` of the
+// One pass over a signal's changes, repeats dropped as in loading, that holds the number, the time and the change of the last entry so far
+// with time at or before t (point.rt); then that entry's value (shown.rt). Nothing is loaded. What the pass does is specs/Point.antt; that it finds the entry which `cursorIn` of the
 // crate loaded names is proved in proofs/PointLaws and proofs/LoadLaws.
 pub mod point;
 pub mod shown;
 
-use crate::point::KeptChange;
 use crate::point::point_at;
 use crate::shown::value_at;
+use entry::kept::KeptChange;
 use loaded::CursorAnswer;
-use signal::kind::SignalEncoding;
 use walk::head::kind_at;
 ghost use mathlib.Core.Path.{_≡_};
-ghost use Rattle.signal.specs.Kind.{absent};
 ghost use Rattle.loaded.specs.Reader.{cursorReply, cursorAfter, cursorIn};
 ghost use Rattle.walk.specs.Walk.{Opened, imageIn};
-
-fn is_absent(kind: SignalEncoding) -> bool
-    ensures { λ r. ⌜ r ≡ absent kind ⌝ }
-{
-    match kind {
-        SignalEncoding::BitVector(_) => false,
-        SignalEncoding::Real => false,
-        SignalEncoding::Absent => true,
-    }
-}
 
 // The last entry of a signal with time at or before t; before the first, entry 0. 4 by the signal, 9 by the width even where there is no
 // entry.
@@ -34,7 +22,7 @@ pub fn cursor_in(image: &[u8], signal: u32, t: u64, out: &mut [u8]) -> CursorAns
     ensures { λ r. ⌜ cursorAfter (cursorReply r) (now (out .exit)) ≡ cursorIn (imageIn (now (image .entry))) signal t (now (out .entry)) ⌝ }
 {
     let kind = kind_at(image, signal);
-    if is_absent(kind) {
+    if kind.is_absent() {
         return CursorAnswer::Refused(4);
     }
     if out.len() < kind.width() as usize {

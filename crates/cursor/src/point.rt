@@ -1,5 +1,6 @@
 // The entry that the cursor points to, over a signal's changes.
-use entry::same::same_content;
+use entry::kept::KeptChange;
+use entry::kept::repeats_last;
 use signal::decode::ChangeValue;
 use signal::kind::SignalEncoding;
 use stream::read::ReadChange;
@@ -10,18 +11,14 @@ use walk::block::time_at;
 use walk::head::block_count;
 use walk::part::part_in;
 ghost use mathlib.Core.Path.{_≡_};
+ghost use mathlib.Core.Bool.{_||_};
 ghost use Prim.Native.Nat.{ℕ, _+_, _≤_, _<_, _^_};
+ghost use lib.Dec.{eqb, leb};
 ghost use Rattle.loaded.specs.Opener.{kindAt, blockAt, partAt};
 ghost use Rattle.loaded.specs.Loading.{entriesIn};
 ghost use Rattle.entry.specs.Read.{contentRead, Reads};
 ghost use Rattle.walk.specs.Walk.{Opened, imageIn, BlockHere, SomeBlock};
-ghost use Rattle.cursor.specs.Point.{unpointed, repeatsKept, passed, allPassed, blocksPassed, contentIn, ChangeReads, pointAs, PointReads};
-
-// A kept change: its value, and the place in the image after it.
-pub enum KeptChange {
-    Nothing,
-    Change(ChangeValue, usize),
-}
+ghost use Rattle.cursor.specs.Point.{unpointed, passed, allPassed, blocksPassed, pointAs, PointReads};
 
 // How many entries are kept and the last of them; the number, the time and the change of the one that is pointed to.
 pub struct Pointing {
@@ -32,20 +29,14 @@ pub struct Pointing {
     pub found: KeptChange,
 }
 
-fn repeats_last(
-    image: &[u8],
-    kind: SignalEncoding,
-    last: KeptChange,
-    value: ChangeValue,
-    next: usize,
-) -> bool
-    requires { ⌜ ChangeReads kind (now image) last × Reads kind (now image) value next ⌝ }
-    ensures { λ r. ⌜ r ≡ repeatsKept (contentIn kind (now (image .entry)) last) (contentRead kind (now (image .entry)) value next) ⌝ }
+// Whether the entry after so many, at a time, is pointed to: the first one is, and one at or before t.
+fn is_pointed(count: u32, time: u64, t: u64) -> bool
+    ensures { λ r. ⌜ r ≡ (eqb count 0 || leb time t) ⌝ }
 {
-    match last {
-        KeptChange::Nothing => false,
-        KeptChange::Change(said, end) => same_content(image, said, end, image, value, next, kind),
+    if count == 0 {
+        return true;
     }
+    time <= t
 }
 
 // One change more, at a time.
@@ -67,17 +58,8 @@ fn pass_change(
     }
     let count = state.count;
     let last = KeptChange::Change(value, next);
-    let found = KeptChange::Change(value, next);
-    if count == 0 {
-        return Pointing {
-            count: 1,
-            last,
-            number: 0,
-            time,
-            found,
-        };
-    }
-    if time <= t {
+    if is_pointed(count, time, t) {
+        let found = KeptChange::Change(value, next);
         return Pointing {
             count: count + 1,
             last,

@@ -1,4 +1,6 @@
 // One entry's value, out of the change in the image.
+use entry::answer::event_entry;
+use entry::answer::symbols_entry;
 use entry::read::bit_in;
 use entry::read::bits_in;
 use entry::read::states_in;
@@ -7,34 +9,17 @@ use packed::unpack;
 use signal::decode::ChangeValue;
 use signal::kind::SignalEncoding;
 use value::real::Entry;
-use value::real::SignalValue;
 use value::real::real_entry;
 use value::states::States;
 use value::symbol::Bit;
-ghost use mathlib.Core.Path.{_≡_};
 ghost use mathlib.Core.List.{[], _∷_};
 ghost use Prim.Native.Nat.{_≤_, _<_};
 ghost use lib.ListN.{length};
 ghost use Rattle.value.specs.Class.{classNumber};
 ghost use Rattle.signal.specs.Kind.{widthOf};
 ghost use Rattle.signal.specs.Content.{symbols};
-ghost use Rattle.loaded.specs.Reader.{entryReply, event, vector};
 ghost use Rattle.entry.specs.Read.{wideRead, contentRead, Reads, PackedThere};
 ghost use Rattle.cursor.specs.Shown.{Shows};
-
-fn event_entry() -> Entry
-    ensures { λ r. ⌜ (entryReply r ≡ event 0) × (r .bits ≡ 0) ⌝ }
-{
-    let value = SignalValue::Event;
-    Entry { value, bits: 0 }
-}
-
-fn symbols_entry(states: States) -> Entry
-    ensures { λ r. ⌜ (entryReply r ≡ vector (classNumber states) 0) × (r .bits ≡ 0) ⌝ }
-{
-    let value = SignalValue::BitVec(states);
-    Entry { value, bits: 0 }
-}
 
 fn bit_entry(bit: Bit, out: &mut [u8]) -> Entry
     requires { ⌜ 0 < length (now out) ⌝ }

@@ -1,34 +1,30 @@
 // A cut: the open block is written into the image, and the next one begins. Document 01, 'Recording' and 'Block and image'.
 //
-// Its size is known before the first byte is written. All is linear in the work, the signals and the times.
-use block::block::put_block;
+// Its size is known before the first byte is written. All is linear in the work, the signals and the times. The loop over the signals'
+// records is its caller's: it makes a turn of `begin_record` for each, after `open_cut` and before `close_cut` (specs/Turns.antt).
+use block::block::close_block;
+use block::block::open_block;
+use block::pass::begin_part;
 use numbers::little_endian::put_u32;
 use recording::Encoder;
-use storage::rewind_records;
+use recording::SignalRecord;
 use work::Measured;
 use work::measure;
 ghost use mathlib.Core.Path.{_≡_};
-ghost use mathlib.Core.List.{map};
-ghost use Prim.Native.Nat.{_+_, _-_, _≤_, _<_};
-ghost use lib.ListN.{length, take, getD, set};
-ghost use lib.Seq.{sets};
-ghost use Rattle.image.specs.Block.{blockBytes, blockSize};
-ghost use Rattle.recording.specs.Memory.{memory, first};
-ghost use Rattle.recording.specs.Refusals.{stateTests};
-ghost use Rattle.recording.specs.Step.{rewound, cutOf, cutBlock, cutIn};
-ghost use Rattle.storage.specs.Storage.{recordsOf};
-ghost use Rattle.work.specs.Measure.{dataLength};
-ghost use Rattle.block.specs.Given.{itemsIn, Divides};
-ghost use Rattle.cut.specs.Cut.{afterCut, cutBy, cutState};
+ghost use Prim.Native.Nat.{_+_, _≤_, _<_};
+ghost use lib.ListN.{length, drop};
+ghost use Rattle.block.specs.Given.{itemsIn, Divides, closed, Closes};
+ghost use Rattle.cut.specs.Cut.{sized, cutState, inTail, dataStart, cutOpened, cutClosed, nextTimes, CutOpens, CutCloses};
+ghost use Rattle.cut.specs.Turns.{placed, turned, TurnFits};
 
-// A refusal's number, 0 where the block is cut, and the state after it.
-pub struct CutOutcome {
+// A refusal's number, 0 where the block can be cut, and the bytes that it takes.
+pub struct CutSize {
     pub refusal: u32,
-    pub state: Encoder,
+    pub size: u32,
 }
 
 // The state after a cut of a block of size bytes.
-fn cut_state(state: Encoder, size: u32) -> Encoder
+pub fn cut_state(state: Encoder, size: u32) -> Encoder
     requires { ⌜ (state .image + size < 4294967296) × (state .blocks + 1 < 4294967296) ⌝ }
     ensures { λ r. ⌜ r ≡ cutState state size ⌝ }
 {
@@ -40,62 +36,91 @@ fn cut_state(state: Encoder, size: u32) -> Encoder
     after
 }
 
-// Writes the block of the used work into the unused part of the image, then N and total into its head.
-fn put_cut(state: Encoder, size: u32, records: &[u64], times: &[u64], work: &[u8], image: &mut [u8])
-    requires { ⌜ (state .image + size ≤ length (now image)) × (length (now image) ≤ 1073741824) × (state .blocks ≤ state .image) × (0 < state .held) ⌝ }
-    requires { ⌜ Divides (length (now records)) (now work) × (state .held ≤ length (now times)) ⌝ }
-    requires { ⌜ size ≡ blockSize (length (now records)) (state .held) (dataLength 0 (length (now records)) (itemsIn (length (now records)) (now work))) ⌝ }
-    ensures { λ r. ⌜ now (image .exit) ≡ cutIn (memory state (recordsOf (now (records .entry))) (now (times .entry)) (now (work .entry)) (now (image .entry)))
-        (blockBytes (cutBlock (memory state (recordsOf (now (records .entry))) (now (times .entry)) (now (work .entry)) (now (image .entry))) (itemsIn (length (now (records .entry))) (now (work .entry))))) .image ⌝ }
+// 10: the work does not divide into records of numbers below S. 8: the block exceeds the unused bytes of an image of so many; it is
+// compared in 64 bits, as S and the work may have been altered.
+pub fn cut_size(state: Encoder, work: &[u8], image: usize) -> CutSize
+    requires { ⌜ (state .work ≤ length (now work)) × (state .image ≤ image) × (image ≤ 1073741824) ⌝ }
+    ensures { λ r. ⌜ r ≡ sized state (now (work .entry)) image ⌝ }
 {
-    let used = state.image as usize;
-    put_block(&mut image[used..], size, records, times, state.held, work);
-    put_u32(image, 8, state.blocks + 1);
-    put_u32(image, 12, state.image + size);
-}
-
-// The next block: each record's index is 0 again, and the table begins with the old last time.
-fn begin_next(state: Encoder, records: &mut [u64], times: &mut [u64])
-    requires { ⌜ (0 < state .held) × (state .held ≤ length (now times)) ⌝ }
-    ensures { λ r. ⌜ (recordsOf (now (records .exit)) ≡ map rewound (recordsOf (now (records .entry)))) × (now (times .exit) ≡ set (now (times .entry)) 0 (getD (now (times .entry)) (state .held - 1) 0)) ⌝ }
-{
-    rewind_records(records);
-    times[0] = times[state.held as usize - 1];
-}
-
-// Cuts a block of a state that no test of its own refuses. 10: the work does not divide into records of numbers below S. 8: the block
-// exceeds the unused image bytes; it is compared in 64 bits, as S and the work may have been altered.
-pub fn cut(
-    state: Encoder,
-    records: &mut [u64],
-    times: &mut [u64],
-    work: &[u8],
-    image: &mut [u8],
-) -> CutOutcome
-    requires { ⌜ (first (stateTests state (length (now records)) (length (now times)) (length (now work)) (length (now image))) ≡ 0) × (0 < state .held) ⌝ }
-    ensures { λ r. ⌜ afterCut (r .refusal) (memory (r .state) (recordsOf (now (records .exit))) (now (times .exit)) (now (work .entry)) (now (image .exit)))
-        ≡ cutBy (memory state (recordsOf (now (records .entry))) (now (times .entry)) (now (work .entry)) (now (image .entry)))
-        (cutOf (memory state (recordsOf (now (records .entry))) (now (times .entry)) (now (work .entry)) (now (image .entry)))) ⌝ }
-{
-    let used = &work[..state.work as usize];
-    match measure(used, state.signals) {
+    match measure(&work[..state.work as usize], state.signals) {
         Measured::Data(n) => {
             let fixed = 12 + 4 * state.signals as u64 + 8 * state.held as u64;
-            let free = (image.len() - state.image as usize) as u64;
+            let free = (image - state.image as usize) as u64;
             if free < fixed {
-                return CutOutcome { refusal: 8, state };
+                return CutSize {
+                    refusal: 8,
+                    size: 0,
+                };
             }
             if free - fixed < n {
-                return CutOutcome { refusal: 8, state };
+                return CutSize {
+                    refusal: 8,
+                    size: 0,
+                };
             }
-            let size = (fixed + n) as u32;
-            put_cut(state, size, &*records, &*times, used, image);
-            begin_next(state, records, times);
-            CutOutcome {
+            CutSize {
                 refusal: 0,
-                state: cut_state(state, size),
+                size: (fixed + n) as u32,
             }
         }
-        Measured::Damaged => CutOutcome { refusal: 10, state },
+        Measured::Damaged => CutSize {
+            refusal: 10,
+            size: 0,
+        },
     }
+}
+
+// Opens the block of the used work, of size bytes, in the unused part of the image.
+pub fn open_cut(state: Encoder, size: u32, times: &[u64], work: &[u8], image: &mut [u8])
+    requires { ⌜ CutOpens state size (now times) (now work) (now image) ⌝ }
+    ensures { λ _. ⌜ now (image .exit) ≡ cutOpened state size (now (times .entry)) (now (work .entry)) (now (image .entry)) ⌝ }
+{
+    let used = state.image as usize;
+    let records = &work[..state.work as usize];
+    open_block(
+        &mut image[used..],
+        size,
+        state.signals,
+        times,
+        state.held,
+        records,
+    );
+}
+
+// The turn of a signal's record: its part begins at place o of the data. Answers where the next part begins.
+pub fn begin_record(
+    image: &mut [u8],
+    used: usize,
+    d: usize,
+    o: usize,
+    g: usize,
+    record: SignalRecord,
+) -> usize
+    requires { ⌜ TurnFits used d o g (now image) ⌝ }
+    ensures { λ r. ⌜ placed r (now (image .exit)) ≡ turned used d g «record» (placed o (now (image .entry))) ⌝ }
+{
+    let top = record.top;
+    begin_part(&mut image[used..], d, o, g, top)
+}
+
+// Closes the block of some work in the unused part of the image.
+fn close_tail(state: Encoder, work: &[u8], image: &mut [u8])
+    requires { ⌜ (state .image + dataStart state ≤ length (now image)) × (length (now image) ≤ 1073741824) × Divides (state .signals) (now work) ⌝ }
+    requires { ⌜ Closes (dataStart state) (state .signals) (itemsIn (state .signals) (now work)) (drop (state .image) (now image)) ⌝ }
+    ensures { λ _. ⌜ now (image .exit) ≡ inTail (state .image) (closed (dataStart state) (state .signals) (itemsIn (state .signals) (now (work .entry)))) (now (image .entry)) ⌝ }
+{
+    let used = state.image as usize;
+    let d = 12 + 4 * state.signals as usize + 8 * state.held as usize;
+    close_block(&mut image[used..], d, state.signals, work);
+}
+
+// Closes the block, then writes N and total into the image's head. The next table begins with the old last time.
+pub fn close_cut(state: Encoder, size: u32, times: &mut [u64], work: &[u8], image: &mut [u8])
+    requires { ⌜ CutCloses state size (now times) (now work) (now image) ⌝ }
+    ensures { λ _. ⌜ (now (times .exit) ≡ nextTimes state (now (times .entry))) × (now (image .exit) ≡ cutClosed state size (now (work .entry)) (now (image .entry))) ⌝ }
+{
+    close_tail(state, &work[..state.work as usize], image);
+    put_u32(image, 8, state.blocks + 1);
+    put_u32(image, 12, state.image + size);
+    times[0] = times[state.held as usize - 1];
 }

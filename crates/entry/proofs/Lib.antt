@@ -3,6 +3,7 @@ pub mod PartLaws
 pub mod ReadThere
 pub mod PutLaws
 pub mod SameLaws
+pub mod KeptLaws
 pub mod AnswerLaws
 pub mod AnswerTrip
 pub mod EntriesLaws

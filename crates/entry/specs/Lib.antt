@@ -1,3 +1,4 @@
 pub mod Length
 pub mod Read
 pub mod Answer
+pub mod Kept

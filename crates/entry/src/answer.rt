@@ -19,10 +19,10 @@ ghost use lib.ListN.{length};
 ghost use Rattle.value.specs.Class.{classNumber, allSymbols};
 ghost use Rattle.packed.specs.Packed.{packedLength, unpacked};
 ghost use Rattle.signal.specs.Content.{symbols};
-ghost use Rattle.loaded.specs.Reader.{vector, event};
+ghost use Rattle.loaded.specs.Reader.{entryReply, vector, event};
 ghost use Rattle.loaded.specs.EntryBytes.{ownClassIn, vectorContent};
 ghost use Rattle.entry.specs.Length.{wideLength, vectorLength};
-ghost use Rattle.entry.specs.Answer.{answerReply, shown, entryAfter, vectorHolds, contentAfter, entryValueOf};
+ghost use Rattle.entry.specs.Answer.{answerReply, entryAfter, vectorHolds, contentAfter, entryValueOf};
 
 pub enum EntryAnswer {
     // The entry's value; a vector's symbols stand in the lent buffer.
@@ -33,18 +33,19 @@ pub enum EntryAnswer {
     Refused(u32),
 }
 
-fn event_value() -> EntryAnswer
-    ensures { λ r. ⌜ answerReply r ≡ shown (event 0) ⌝ }
+pub fn event_entry() -> Entry
+    ensures { λ r. ⌜ (entryReply r ≡ event 0) × (r .bits ≡ 0) ⌝ }
 {
     let value = SignalValue::Event;
-    EntryAnswer::Value(Entry { value, bits: 0 })
+    Entry { value, bits: 0 }
 }
 
-fn symbols_value(states: States) -> EntryAnswer
-    ensures { λ r. ⌜ answerReply r ≡ shown (vector (classNumber states) 0) ⌝ }
+// Symbols of a class, which stand in a lent buffer.
+pub fn symbols_entry(states: States) -> Entry
+    ensures { λ r. ⌜ (entryReply r ≡ vector (classNumber states) 0) × (r .bits ≡ 0) ⌝ }
 {
     let value = SignalValue::BitVec(states);
-    EntryAnswer::Value(Entry { value, bits: 0 })
+    Entry { value, bits: 0 }
 }
 
 fn bit_value(symbol: u8, out: &mut [u8]) -> EntryAnswer
@@ -55,7 +56,7 @@ fn bit_value(symbol: u8, out: &mut [u8]) -> EntryAnswer
         return EntryAnswer::NoEntry;
     }
     out[0] = symbol;
-    symbols_value(States::from_bit(Bit(symbol)))
+    EntryAnswer::Value(symbols_entry(States::from_bit(Bit(symbol))))
 }
 
 // Symbols packed in a class; that of the value itself is answered.
@@ -66,7 +67,7 @@ fn packed_value(part: &[u8], width: u32, states: States, out: &mut [u8]) -> Entr
     match find_min_states(part, width, states) {
         MaybeStates::Some(least) => {
             unpack(out, part, width, states);
-            symbols_value(least)
+            EntryAnswer::Value(symbols_entry(least))
         }
         MaybeStates::None => EntryAnswer::NoEntry,
     }
@@ -107,7 +108,7 @@ fn vector_value(bytes: &[u8], width: u32, class: States, out: &mut [u8]) -> Entr
     ensures { λ r. ⌜ entryAfter (answerReply r) (now (out .exit)) ≡ contentAfter (vectorHolds width (classNumber class) (now (bytes .entry))) (vectorContent width (classNumber class) (now (bytes .entry))) (now (out .entry)) ⌝ }
 {
     if width == 0 {
-        return event_value();
+        return EntryAnswer::Value(event_entry());
     }
     if width == 1 {
         return bit_value(bytes[0] % 64, out);

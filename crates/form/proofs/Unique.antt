@@ -7,44 +7,44 @@ use mathlib.Core.Option.{Option, some, none}
 use Rattle.lists.specs.Bytes.{Bytes}
 use Rattle.lists.specs.Got.{Got, bad, got}
 use Rattle.form.specs.Form.{Form, Whole}
-use Rattle.form.proofs.FormLaws.{Laws, bad-got}
-use Rattle.form.proofs.WholeLaws.{WholeLaws, none-some}
+use Rattle.form.proofs.FormLaws.{Laws}
+use Rattle.form.proofs.WholeLaws.{WholeLaws}
 
 -- a value of c is one of d, with the same bytes
 pub record Within {A : Type 0} (c d : Form A) (x : A) : Type 0 where
   pub ok : d .Ok x
   pub same : c .put x ≡ d .put x
 
-module _ {A : Type 0} (c d : Form A) (C : Laws c) (D : Laws d) (there : (x : A) → c .Ok x → Within c d x) (back : (x : A) → d .Ok x → Within d c x) where
-  pub get-same : (s : List ℕ) → Bytes s → c .get s ≡ d .get s
-  get-same s y = by (c .get s) refl (d .get s) refl
-    where
-      by : (g : Got A) → c .get s ≡ g → (h : Got A) → d .get s ≡ h → g ≡ h
-      by bad e bad f = refl
-      by bad e (got x r) f =
-          let w = D .back s x r y f in
-          let t = back x (w .ok) in
-          bad-got (sym e ∙ ap (c .get) (w .form ∙ ap (λ (l : List ℕ). l ++ r) (t .same)) ∙ C .there x r (t .ok))
-      by (got x r) e h f =
-          let w = C .back s x r y e in
-          let t = there x (w .ok) in
-          sym (D .there x r (t .ok)) ∙ ap (d .get) (sym (w .form ∙ ap (λ (l : List ℕ). l ++ r) (t .same))) ∙ f
+-- what c reads, d reads
+got-too : {A : Type 0} (c d : Form A) → Laws c → Laws d → ((x : A) → c .Ok x → Within c d x)
+    → (s : List ℕ) (x : A) (r : List ℕ) → Bytes s → c .get s ≡ got x r → d .get s ≡ got x r
+got-too c d C D within s x r y e =
+    let w = C .back s x r y e in
+    let t = within x (w .ok) in
+    ap (d .get) (w .form ∙ ap (λ (l : List ℕ). l ++ r) (t .same)) ∙ D .there x r (t .ok)
+
+got-same : {A : Type 0} (g h : Got A) → ((x : A) (r : List ℕ) → g ≡ got x r → h ≡ got x r) → ((x : A) (r : List ℕ) → h ≡ got x r → g ≡ got x r) → g ≡ h
+got-same bad bad f k = refl
+got-same bad (got x r) f k = k x r refl
+got-same (got x r) h f k = sym (f x r refl)
+
+pub get-same : {A : Type 0} (c d : Form A) → Laws c → Laws d → ((x : A) → c .Ok x → Within c d x) → ((x : A) → d .Ok x → Within d c x)
+    → (s : List ℕ) → Bytes s → c .get s ≡ d .get s
+get-same c d C D there back s y = got-same (c .get s) (d .get s) (λ x r e. got-too c d C D there s x r y e) (λ x r e. got-too d c D C back s x r y e)
 
 pub record WithinWhole {A : Type 0} (c d : Whole A) (x : A) : Type 0 where
   pub fit : d .Fit x
   pub same : c .write x ≡ d .write x
 
-module _ {A : Type 0} (c d : Whole A) (C : WholeLaws c) (D : WholeLaws d) (there : (x : A) → c .Fit x → WithinWhole c d x) (back : (x : A) → d .Fit x → WithinWhole d c x) where
-  pub read-same : (s : List ℕ) → Bytes s → c .read s ≡ d .read s
-  read-same s y = by (c .read s) refl (d .read s) refl
-    where
-      by : (g : Option A) → c .read s ≡ g → (h : Option A) → d .read s ≡ h → g ≡ h
-      by none e none f = refl
-      by none e (some x) f =
-          let w = D .back s x y f in
-          let t = back x (w .fit) in
-          none-some (sym e ∙ ap (c .read) (w .all ∙ t .same) ∙ C .there x (t .fit))
-      by (some x) e h f =
-          let w = C .back s x y e in
-          let t = there x (w .fit) in
-          sym (D .there x (t .fit)) ∙ ap (d .read) (sym (w .all ∙ t .same)) ∙ f
+read-too : {A : Type 0} (c d : Whole A) → WholeLaws c → WholeLaws d → ((x : A) → c .Fit x → WithinWhole c d x)
+    → (s : List ℕ) (x : A) → Bytes s → c .read s ≡ some x → d .read s ≡ some x
+read-too c d C D within s x y e = let w = C .back s x y e in let t = within x (w .fit) in ap (d .read) (w .all ∙ t .same) ∙ D .there x (t .fit)
+
+some-same : {A : Type 0} (g h : Option A) → ((x : A) → g ≡ some x → h ≡ some x) → ((x : A) → h ≡ some x → g ≡ some x) → g ≡ h
+some-same none none f k = refl
+some-same none (some x) f k = k x refl
+some-same (some x) h f k = sym (f x refl)
+
+pub read-same : {A : Type 0} (c d : Whole A) → WholeLaws c → WholeLaws d → ((x : A) → c .Fit x → WithinWhole c d x) → ((x : A) → d .Fit x → WithinWhole d c x)
+    → (s : List ℕ) → Bytes s → c .read s ≡ d .read s
+read-same c d C D there back s y = some-same (c .read s) (d .read s) (λ x e. read-too c d C D there s x y e) (λ x e. read-too d c D C back s x y e)

@@ -82,26 +82,28 @@ by-more {A} {P} {l} (got x r) k e f = by-cons (k x r) e (λ m q. f x r m refl q)
     by-cons none e f = none-some e
     by-cons (some m) e f = f m refl (cc)
 
--- an element that may be written has a byte
-module _ {I A : Type 0} (c : I → Form A) (n : A → I) (C : (i : I) → Laws (c i)) (long : (i : I) (x : A) → c i .Ok x → 0 < length (c i .put x)) where
-  chain-more : (k : ℕ) (i : I) (s : List ℕ) → 0 < length s → getChain c n (suc k) i s ≡ more (c i .get s) (λ x r. getChain c n k (n x) r)
+-- a chain, turn by turn
+module _ {I A : Type 0} (c : I → Form A) (n : A → I) where
+  pub chain-more : (k : ℕ) (i : I) (s : List ℕ) → 0 < length s → getChain c n (suc k) i s ≡ more (c i .get s) (λ x r. getChain c n k (n x) r)
   unfolding getChain
   chain-more k i [] h = absurd (omega arith)
   chain-more k i (b ∷ s) h = refl
 
-  chain-end : (k : ℕ) (i : I) → getChain c n k i [] ≡ some []
+  pub chain-end : (k : ℕ) (i : I) → getChain c n k i [] ≡ some []
   unfolding getChain
   chain-end zero i = refl
   chain-end (suc k) i = refl
 
+-- an element that may be written has a byte
+module _ {I A : Type 0} (c : I → Form A) (n : A → I) (C : (i : I) → Laws (c i)) (long : (i : I) (x : A) → c i .Ok x → 0 < length (c i .put x)) where
   chain-there : (k : ℕ) (i : I) (l : List A) → OkChain c n i l → length (putChain c n i l) ≤ k → getChain c n k i (putChain c n i l) ≡ some l
   unfolding putChain OkChain
-  chain-there k i [] o h = chain-end k i
+  chain-there k i [] o h = chain-end c n k i
   chain-there zero i (x ∷ l) o h = absurd (omega (arith, length-append (c i .put x) (putChain c n (n x) l), long i x (o .0)))
   chain-there (suc k) i (x ∷ l) o h =
       let z = long i x (o .0) in
       let e = length-append (c i .put x) (putChain c n (n x) l) in
-      chain-more k i (c i .put x ++ putChain c n (n x) l) (omega arith)
+      chain-more c n k i (c i .put x ++ putChain c n (n x) l) (omega arith)
       ∙ rw (C i .there x (putChain c n (n x) l) (o .0), chain-there k (n x) l (o .1) (omega arith)) refl
 
   ended-list : (i : I) (l : List A) → [] ≡ l → OkChain c n i l × ([] ≡ putChain c n i l)

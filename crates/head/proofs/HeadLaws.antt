@@ -1,49 +1,82 @@
--- The kinds in a head, one after the other, and the head by its four numbers and the kinds.
+-- The kinds in a head, one record's after the other, and the head by its four numbers and the kinds.
 -- Assumes nothing.
 use Prim.Native.Nat.{ℕ, zero, suc, _+_, _*_, _≤_, _<_}
-use mathlib.Core.Path.{_≡_, refl, ap}
+use mathlib.Core.Path.{_≡_, refl, sym, ap, _∙_}
 use mathlib.Core.List.{List, [], _∷_, _++_, map}
+use native.Mathlib.Numerals.{add-one}
 use native.Mathlib.Omega.{arith}
-use lib.ListN.{length, getD, drop}
-use lib.Seq.{sets, drop-cons}
+use lib.ListN.{length, getD, drop, drop-of-length-le}
+use lib.Seq.{sets, length-sets, drop-cons}
 use Rattle.lists.proofs.SetsLaws.{sets-append}
 use Rattle.numbers.specs.LittleEndian.{le}
 use Rattle.numbers.proofs.LittleEndianLaws.{length-le}
+use Rattle.value.specs.declared.states.States.the-variants.{Two}
+use Rattle.signal.specs.declared.kind.SignalEncoding.the-variants.{Absent}
 use Rattle.image.specs.Block.{les}
 use Rattle.image.specs.Head.{kindNumber, headSize, headBytes}
 use Rattle.recording.specs.declared.SignalRecord.{SignalRecord}
+use Rattle.recording.specs.Memory.{recordOf}
 use Rattle.recording.specs.Step.{kindIn}
-use Rattle.storage.specs.Storage.{recordFrom, recordsOf}
-use Rattle.storage.proofs.StorageLaws.{records-length}
-use Rattle.head.specs.Kinds.{kindBytes}
+use Rattle.head.specs.Kinds.{headNumbers, kindPut, kindsPut}
 
-pub kinds-none : (l : List ℕ) (i : ℕ) → length l ≤ i → kindBytes (drop i l) ≡ []
+-- ---- turn by turn
+
+pub kinds-none : (rs : List SignalRecord) (i : List ℕ) → kindsPut 0 rs i ≡ i
+unfolding kindsPut
+kinds-none rs i = refl
+
+pub kinds-next : (n : ℕ) (rs : List SignalRecord) (i : List ℕ)
+    → kindsPut (n + 1) rs i ≡ kindPut n (getD rs n (recordOf Absent 0 Two)) (kindsPut n rs i)
+unfolding kindsPut
+kinds-next n rs i = rw (add-one n) refl
+
+pub kinds-length : (n : ℕ) (rs : List SignalRecord) (i : List ℕ) → length (kindsPut n rs i) ≡ length i
+unfolding kindsPut
+kinds-length zero rs i = refl
+kinds-length (suc n) rs i =
+    length-sets (kindsPut n rs i) (16 + 4 * n) (le 4 (kindNumber (getD rs n (recordOf Absent 0 Two) .kind))) ∙ kinds-length n rs i
+
+-- ---- all of them
+
+-- the kinds, a number of four bytes each
+unfoldable kindBytes : List SignalRecord → List ℕ
+kindBytes rs = les 4 (map kindNumber (map kindIn rs))
+
+bytes-none : kindBytes [] ≡ []
 unfolding kindBytes les
-kinds-none [] zero h = refl
-kinds-none [] (suc i) h = refl
-kinds-none (n ∷ l) zero h = absurd (omega arith)
-kinds-none (n ∷ l) (suc i) h = kinds-none l i (omega arith)
+bytes-none = refl
 
--- r is the record at i, k its kind's number
-pub kinds-next : (l : List ℕ) (i k : ℕ) (r : SignalRecord) → i < length l → r ≡ recordFrom (getD l i 0) → k ≡ kindNumber (r .kind)
-    → kindBytes (drop i l) ≡ le 4 k ++ kindBytes (drop (suc i) l)
+bytes-next : (n : ℕ) (rs : List SignalRecord) → n < length rs
+    → kindBytes (drop n rs) ≡ le 4 (kindNumber (getD rs n (recordOf Absent 0 Two) .kind)) ++ kindBytes (drop (suc n) rs)
 unfolding kindBytes les
-kinds-next l i k r h e f = rw (drop-cons l i 0 h, f, e) refl
+bytes-next n rs h = rw (drop-cons rs n (recordOf Absent 0 Two) h) refl
 
--- a turn of the loop that writes the kinds: the kind at i is written at `at`, the rest after it
-pub kinds-turn : (l image : List ℕ) (i k at : ℕ) (r : SignalRecord) → i < length l → r ≡ recordFrom (getD l i 0) → k ≡ kindNumber (r .kind)
-    → sets (sets image at (le 4 k)) (at + 4) (kindBytes (drop (suc i) l)) ≡ sets image at (kindBytes (drop i l))
-kinds-turn l image i k at r h e f =
-    rw (kinds-next l i k r h e f, sets-append (le 4 k) (kindBytes (drop (suc i) l)) image at, length-le 4 k) refl
+-- the kinds that are left, written, give all of them written
+left : (n : ℕ) (rs : List SignalRecord) (i : List ℕ) → n ≤ length rs
+    → sets (kindsPut n rs i) (16 + 4 * n) (kindBytes (drop n rs)) ≡ sets i 16 (kindBytes rs)
+unfolding kindsPut
+left zero rs i h = refl
+left (suc n) rs i h =
+    let r : ℕ = kindNumber (getD rs n (recordOf Absent 0 Two) .kind) in
+    let x : List ℕ = kindsPut n rs i in
+    let rest : List ℕ = kindBytes (drop (suc n) rs) in
+    let p : 16 + 4 * suc n ≡ 16 + 4 * n + length (le 4 r) = rw (length-le 4 r) (omega arith) in
+    ap (λ (q : ℕ). sets (sets x (16 + 4 * n) (le 4 r)) q rest) p
+    ∙ sym (sets-append (le 4 r) rest x (16 + 4 * n))
+    ∙ ap (λ (l : List ℕ). sets x (16 + 4 * n) l) (sym (bytes-next n rs (omega arith)))
+    ∙ left n rs i (omega arith)
+
+kinds-all : (rs : List SignalRecord) (i : List ℕ) → kindsPut (length rs) rs i ≡ sets i 16 (kindBytes rs)
+kinds-all rs i =
+    rw (drop-of-length-le rs {i = length rs} (omega arith), bytes-none) at (left (length rs) rs i (omega arith))
 
 length-kinds : (l : List SignalRecord) → length (map kindIn l) ≡ length l
 length-kinds [] = refl
 length-kinds (r ∷ l) = ap suc (length-kinds l)
 
--- the head at the start of a recording, written number by number
-pub head-written : (image l : List ℕ) (limit signals : ℕ) → length l ≡ signals
-    → sets (sets (sets (sets (sets image 0 (le 4 signals)) 4 (le 4 limit)) 8 (le 4 0)) 12 (le 4 (16 + 4 * signals))) 16 (kindBytes l)
-    ≡ sets image 0 (headBytes limit 0 (headSize signals) (map kindIn (recordsOf l)))
+-- the head at the start of a recording
+pub head-written : (rs : List SignalRecord) (i : List ℕ) (limit signals : ℕ) → length rs ≡ signals
+    → kindsPut (length rs) rs (headNumbers limit signals i) ≡ sets i 0 (headBytes limit 0 (headSize signals) (map kindIn rs))
 unfolding headBytes kindBytes
-head-written image l limit signals e =
-    rw (length-kinds (recordsOf l), records-length l, e) (simp (sets-append, length-le))
+head-written rs i limit signals e =
+    kinds-all rs (headNumbers limit signals i) ∙ rw (length-kinds rs, e) (simp (sets-append, length-le))

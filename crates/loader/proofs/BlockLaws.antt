@@ -25,7 +25,8 @@ use Rattle.loaded.specs.Loading.{entriesIn, topIn}
 use Rattle.walk.specs.Walk.{Opened, imageIn, blockPlace, BlockHere, PartHere}
 use Rattle.walk.proofs.HeadLaws.{means, head-in}
 use Rattle.walk.proofs.BlockLaws.{here, next-size}
-use Rattle.loader.specs.Output.{allTaken, Room, LastReads, outputAs}
+use Rattle.entry.specs.Kept.{KeptReads}
+use Rattle.loader.specs.Output.{allTaken, Room, outputAs}
 use Rattle.loader.specs.Blocks.{baseOf, changesIn, topOf}
 use Rattle.loader.specs.declared.changes.Loading.{Loading}
 use Rattle.loader.proofs.StreamLaws.{Ahead, Turn, turn, not-bad, Going, gone}
@@ -72,7 +73,7 @@ entries-fit k n i before (some p) f = f .entries
 -- ---- where the stream stands
 
 -- it is no longer than the block's data
-stream-data : (ks : List SignalEncoding) (ps : List (Option (Part (List Entry)))) (g : ℕ) → length ps ≡ length ks
+pub stream-data : (ks : List SignalEncoding) (ps : List (Option (Part (List Entry)))) (g : ℕ) → length ps ≡ length ks
     → length (streamIn (getD ks g Absent) (getD ps g none)) ≤ length (dataOf (streamedParts ks ps))
 unfolding dataOf streamedParts
 stream-data [] [] g e = omega arith
@@ -98,7 +99,7 @@ pub record Begins (b : List ℕ) (number at g from to : ℕ) : Type 0 where
   pub ordered : from ≤ to
 
 pub begins : (b : List ℕ) (number at g from to top : ℕ) → Bytes b → Opened b → BlockHere number at b
-    → PartHere from to top (kindAt (imageIn b) g) (partAt (blockAt (imageIn b) number) g) b → Begins b number at g from to
+    → PartHere from to top number g b → Begins b number at g from to
 begins b number at g from to top y o h p =
     let x = imageIn b in
     let ks = x .kinds in
@@ -157,7 +158,7 @@ BlockGoing k b number g c w times from to r index bytes p i s index' bytes' =
 
 module _ (k : SignalEncoding) (b : List ℕ) (number at g c : ℕ) (w : Bool) (times from to : ℕ) (s r : Loading) (index bytes : List ℕ)
     (e : k ≡ kindAt (imageIn b) g) (m : Begins b number at g from to) (q : Same s r) where
-  pub going-first : (i : ℕ) → LastReads (kindAt (imageIn b) g) b (s .last) → i ≡ baseOf number times → BlockGoing k b number g c w times from to r index bytes from i r index bytes
+  pub going-first : (i : ℕ) → KeptReads (kindAt (imageIn b) g) b (s .last) → i ≡ baseOf number times → BlockGoing k b number g c w times from to r index bytes from i r index bytes
   going-first i l f =
       rw e (record {
         ahead = m .ahead;
@@ -175,7 +176,7 @@ module _ (k : SignalEncoding) (b : List ℕ) (number at g c : ℕ) (w : Bool) (t
   room-there i n h = rw (same-output k b s r index bytes q, e) h
 
   pub block-done : (p i : ℕ) (t : Loading) (index' bytes' : List ℕ) → BlockGoing k b number g c w times from to r index bytes p i t index' bytes' → to ≤ p → s .count ≤ at
-      → LastReads (kindAt (imageIn b) g) b (t .last) × (t .count ≤ blockPlace (imageIn b) (suc number))
+      → KeptReads (kindAt (imageIn b) g) b (t .last) × (t .count ≤ blockPlace (imageIn b) (suc number))
       × (outputAs (kindAt (imageIn b) g) b t index' bytes' ≡ allTaken (kindAt (imageIn b) g) c w (outputAs (kindAt (imageIn b) g) b s index bytes) (changesIn (imageIn b) number g times))
   block-done p i t index' bytes' d h few =
       let x : outputAs k b t index' bytes' ≡ allTaken k c w (outputAs k b r index bytes) (changesIn (imageIn b) number g times) = gone k b _ _ c w _ from to _ _ p i t index' bytes' d h in

@@ -25,10 +25,10 @@ use Rattle.loaded.specs.Reader.{indexIn}
 use Rattle.walk.specs.Walk.{Opened, imageIn, blockPlace, BlockHere}
 use Rattle.walk.proofs.HeadLaws.{means, head-in}
 use Rattle.walk.proofs.BlockLaws.{here, next-size, end-place}
-use Rattle.loader.specs.Output.{Output, output, allTaken, Room, LastReads, outputAs, holding}
+use Rattle.entry.specs.Kept.{KeptReads}
+use Rattle.loader.specs.Output.{Output, output, allTaken, Room, nothingKept, outputAs, holding}
 use Rattle.loader.specs.Blocks.{baseOf, changesIn, topOf}
 use Rattle.loader.specs.declared.changes.Loading.{Loading}
-use Rattle.loader.specs.declared.changes.LastKept.the-variants as last
 use Rattle.loader.proofs.OutputLaws.{taken-pushed, Grows, grows-same, grows-both, all-grows, room-first}
 use Rattle.loader.proofs.BlockLaws.{base-small}
 
@@ -115,7 +115,7 @@ pub record Passing (b : List ℕ) (g c : ℕ) (w : Bool) (index bytes : List ℕ
   pub few : s .count ≤ at
   pub place : at ≡ blockPlace (imageIn b) number
   pub class : s .top ≡ l .class
-  pub reads : LastReads (kindAt (imageIn b) g) b (s .last)
+  pub reads : KeptReads (kindAt (imageIn b) g) b (s .last)
   pub same : outputAs (kindAt (imageIn b) g) b s index' bytes' ≡ holding (kindAt (imageIn b) g) c w index bytes (l .entries)
 
 pub passing-sizes : (b : List ℕ) (g c : ℕ) (w : Bool) (index bytes : List ℕ) (number at times : ℕ) (s : Loading) (index' bytes' : List ℕ)
@@ -129,16 +129,16 @@ unfolding entriesBytes
 held-nothing k c false i b = refl
 held-nothing k c true i b = refl
 
-pub passing-first : (b : List ℕ) (g c : ℕ) (w : Bool) (index bytes : List ℕ) (at : ℕ) → Bytes b → Opened b → at ≡ blockPlace (imageIn b) 0
-    → Passing b g c w index bytes 0 at 0 (record { count = 0; used = 0; top = 0; last = last.Nothing }) index bytes
-passing-first b g c w index bytes at y o e = record {
+pub passing-first : (b : List ℕ) (g c : ℕ) (w : Bool) (index bytes : List ℕ) (at : ℕ) (s : Loading) → Bytes b → Opened b → at ≡ blockPlace (imageIn b) 0
+    → s ≡ nothingKept → Passing b g c w index bytes 0 at 0 s index bytes
+passing-first b g c w index bytes at s y o e z = rw z (record {
   l = load [] [] 0;
   tops = [];
   rest = refl;
   fit = means b y o .valid .blocks;
   inside = omega arith;
   size = refl;
-  none-yet = λ z. refl;
+  none-yet = λ k. refl;
   many = omega arith;
   early = omega arith;
   few = omega arith;
@@ -146,7 +146,7 @@ passing-first b g c w index bytes at y o e = record {
   class = refl;
   reads = tt;
   same = held-nothing (kindAt (imageIn b) g) c w index bytes;
-}
+})
 
 module _ (b : List ℕ) (g c : ℕ) (w : Bool) (index bytes : List ℕ) (number at times : ℕ) (s : Loading) (index' bytes' : List ℕ) (y : Bytes b) (o : Opened b)
     (p : Passing b g c w index bytes number at times s index' bytes') (h : number < length (imageIn b .blocks)) where
@@ -204,7 +204,7 @@ module _ (b : List ℕ) (g c : ℕ) (w : Bool) (index bytes : List ℕ) (number 
       (omega arith, omega arith)
 
   pub passing-on : (times' at' : ℕ) (s' : Loading) (i j : List ℕ) → times' ≡ baseOf number times + length (next .times) → at' ≡ blockPlace x (suc number)
-      → LastReads (kindAt x g) b (s' .last) → s' .top ≡ max (s .top) (topOf x number g) → s' .count ≤ blockPlace x (suc number)
+      → KeptReads (kindAt x g) b (s' .last) → s' .top ≡ max (s .top) (topOf x number g) → s' .count ≤ blockPlace x (suc number)
       → outputAs (kindAt x g) b s' i j ≡ allTaken (kindAt x g) c w (outputAs (kindAt x g) b s index' bytes') (changesIn x number g times)
       → Passing b g c w index bytes (number + 1) at' times' s' i j
   passing-on times' at' s' i j e f r t few q =

@@ -78,7 +78,7 @@ top-two k n i before (some p) f = by k (f .most)
     by Real h = omega arith
     by Absent h = omega arith
 
-class-two : (limit : ℕ) (ks : List SignalEncoding) (end : Option ℕ) (tops : List ℕ) (g : ℕ) (l : Load) (bs : List (Block (List Entry)))
+pub class-two : (limit : ℕ) (ks : List SignalEncoding) (end : Option ℕ) (tops : List ℕ) (g : ℕ) (l : Load) (bs : List (Block (List Entry)))
     → BlocksFit limit ks end tops bs → l .class ≤ 2 → loadFrom g l bs .class ≤ 2
 unfolding loadFrom
 class-two limit ks end tops g l [] f h = h
@@ -140,7 +140,7 @@ sized b g y o =
 
 -- ---- the kind
 
-known-at : (ks : List SignalEncoding) (g : ℕ) → KnownKinds ks → knownKind (getD ks g Absent) ≡ true
+pub known-at : (ks : List SignalEncoding) (g : ℕ) → KnownKinds ks → knownKind (getD ks g Absent) ≡ true
 known-at [] g h = refl
 known-at (k ∷ ks) zero h = h .0
 known-at (k ∷ ks) (suc g) h = known-at ks g (h .1)

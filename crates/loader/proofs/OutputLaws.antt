@@ -13,26 +13,17 @@ use Rattle.lists.specs.Choice.{pick}
 use Rattle.lists.proofs.SetsLaws.{sets-append}
 use Rattle.signal.specs.declared.kind.SignalEncoding.{SignalEncoding}
 use Rattle.signal.specs.Content.{Content}
-use Rattle.stream.specs.Entries.{Entry, entry}
+use Rattle.stream.specs.Entries.{Entry}
 use Rattle.loaded.specs.Loading.{repeatsLast, pushed}
 use Rattle.loaded.specs.EntryBytes.{entryBytes, entriesBytes}
 use Rattle.loaded.specs.Reader.{indexIn}
-use Rattle.loader.specs.Output.{Output, output, repeatsKept, kept, taken, allTaken, Room, lastIn, outputAs, lastContent, holding}
-use Rattle.loader.specs.declared.changes.LastKept.{LastKept}
+use Rattle.entry.specs.Kept.{repeatsKept, keptContent, lastContent}
+use Rattle.entry.proofs.KeptLaws.{repeats-last, last-more, count-more}
+use Rattle.loader.specs.Output.{Output, output, kept, taken, allTaken, Room, outputAs, holding}
+use Rattle.entry.specs.declared.kept.KeptChange.{KeptChange}
 use Rattle.loader.specs.declared.changes.Loading.{Loading}
 
 -- ---- one entry more
-
-last-more : (es : List Entry) (e : Entry) → lastContent (es ++ e ∷ []) ≡ some (e .content)
-last-more [] e = refl
-last-more (a ∷ []) e = refl
-last-more (a ∷ b ∷ es) e = last-more (b ∷ es) e
-
-repeats-last : (es : List Entry) (c : Content) → repeatsKept (lastContent es) c ≡ repeatsLast es c
-unfolding repeatsLast
-repeats-last [] c = refl
-repeats-last (a ∷ []) c = refl
-repeats-last (a ∷ b ∷ es) c = repeats-last (b ∷ es) c
 
 index-more : (es : List Entry) (e : Entry) → map indexIn (es ++ e ∷ []) ≡ map indexIn es ++ e .index ∷ []
 index-more [] e = refl
@@ -46,10 +37,6 @@ bytes-append k c (e ∷ es) fs = ap (λ (l : List ℕ). entryBytes k c (e .conte
 bytes-more : (k : SignalEncoding) (c : ℕ) (es : List Entry) (e : Entry) → entriesBytes k c (es ++ e ∷ []) ≡ entriesBytes k c es ++ entryBytes k c (e .content)
 unfolding entriesBytes
 bytes-more k c es e = bytes-append k c es (e ∷ []) ∙ ap (λ (l : List ℕ). entriesBytes k c es ++ l) (append-nil (entryBytes k c (e .content)))
-
-count-more : (es : List Entry) (e : Entry) → length (es ++ e ∷ []) ≡ suc (length es)
-count-more [] e = refl
-count-more (a ∷ es) e = ap suc (count-more es e)
 
 outputs-equal : (n m u v : ℕ) (l r : Option Content) (i j b d : List ℕ) → n ≡ m → u ≡ v → l ≡ r → i ≡ j → b ≡ d → output n u l i b ≡ output m v r j d
 outputs-equal n m u v l r i j b d e f g h q = rw (e, f, g, h, q) refl
@@ -147,6 +134,6 @@ module _ (k : SignalEncoding) (c : ℕ) (w : Bool) (o : Output) (i : ℕ) (a : C
       (omega (arith, q .0, ap (λ (p : Output). p .count) s), omega (arith, q .1, ap (λ (p : Output). p .used) s))
 
 -- what the code holds after it
-pub output-of : (k : SignalEncoding) (b : List ℕ) (r : Loading) (n u : ℕ) (l : LastKept) (i o : List ℕ) → r .count ≡ n → r .used ≡ u → r .last ≡ l
-    → outputAs k b r i o ≡ output n u (lastIn k b l) i o
+pub output-of : (k : SignalEncoding) (b : List ℕ) (r : Loading) (n u : ℕ) (l : KeptChange) (i o : List ℕ) → r .count ≡ n → r .used ≡ u → r .last ≡ l
+    → outputAs k b r i o ≡ output n u (keptContent k b l) i o
 output-of k b r n u l i o e f g = rw (e, f, g) refl

@@ -4,7 +4,7 @@ use Prim.Native.Nat.{ℕ, zero, suc, _+_, _-_, _*_, _≤_, _<_}
 use mathlib.Core.Path.{_≡_, refl, sym, ap, _∙_, subst}
 use mathlib.Core.Bool.{Bool}
 use mathlib.Core.List.{List, [], _∷_, _++_, append-assoc}
-use mathlib.Core.Option.{some, none}
+use mathlib.Core.Option.{some}
 use native.Mathlib.Omega.{arith}
 use lib.ListN.{length, drop, length-append, length-drop}
 use Rattle.lists.specs.Got.{got}
@@ -27,7 +27,8 @@ use Rattle.codec.specs.Valid.{EntryFits, EntriesFit}
 use Rattle.loaded.specs.Loading.{moved}
 use Rattle.entry.specs.Read.{contentRead}
 use Rattle.entry.proofs.ReadThere.{ReadThere, read-there}
-use Rattle.loader.specs.Output.{Output, taken, allTaken, Room, LastReads, outputAs}
+use Rattle.entry.specs.Kept.{KeptReads}
+use Rattle.loader.specs.Output.{Output, taken, allTaken, Room, outputAs}
 use Rattle.loader.specs.declared.changes.Loading.{Loading}
 use Rattle.loader.proofs.OutputLaws.{Grows, all-grows, taken-grows, room-first}
 
@@ -145,7 +146,7 @@ none-left k b n top p to a h = none-by k n top p to (a .prev) (a .least) (a .ent
 pub record Going (k : SignalEncoding) (b : List ℕ) (n top c : ℕ) (w : Bool) (base from to : ℕ) (o : Output) (all : List Entry) (p i : ℕ) (s : Loading) (index bytes : List ℕ) : Type 0 where
   pub ahead : Ahead k b n top p to
   pub at : i ≡ base + ahead .prev
-  pub reads : LastReads k b (s .last)
+  pub reads : KeptReads k b (s .last)
   pub same : allTaken k c w (outputAs k b s index bytes) (moved base (ahead .entries)) ≡ allTaken k c w o all
   pub start : from ≤ p
   pub few : s .count + from ≤ o .count + p
@@ -172,7 +173,7 @@ module _ (k : SignalEncoding) (b : List ℕ) (n top c : ℕ) (w : Bool) (base fr
       (subst (λ (q : Output). Grows x q) (one-more p i s index bytes g d v next t) (all-grows k c w x (moved base (t .after .entries)))) r)
 
   pub going-on : (p i : ℕ) (s : Loading) (index bytes : List ℕ) (g : Going k b n top c w base from to o all p i s index bytes) (d : ℕ) (v : ChangeValue) (next : ℕ)
-      → Turn k b n top p to (g .ahead) d v next → (s' : Loading) (index' bytes' : List ℕ) → LastReads k b (s' .last) → s' .count ≤ s .count + 1
+      → Turn k b n top p to (g .ahead) d v next → (s' : Loading) (index' bytes' : List ℕ) → KeptReads k b (s' .last) → s' .count ≤ s .count + 1
       → outputAs k b s' index' bytes' ≡ taken k c w (outputAs k b s index bytes) (i + d) (contentRead k b v next)
       → Going k b n top c w base from to o all next (i + d) s' index' bytes'
   going-on p i s index bytes g d v next t s' index' bytes' r q e =

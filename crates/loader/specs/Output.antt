@@ -6,18 +6,17 @@ use Prim.Native.Nat.{ℕ, suc, _+_, _≤_}
 use mathlib.Core.Path.{_≡_}
 use mathlib.Core.Bool.{Bool, true, false}
 use mathlib.Core.List.{List, [], _∷_, map}
-use mathlib.Core.Option.{Option, some, none}
+use mathlib.Core.Option.{Option, some}
 use lib.ListN.{length, set}
 use lib.Seq.{sets}
 use Rattle.lists.specs.Choice.{pick}
 use Rattle.signal.specs.declared.kind.SignalEncoding.{SignalEncoding}
 use Rattle.signal.specs.Content.{Content}
-use Rattle.stream.specs.Entries.{Entry, repeats}
+use Rattle.stream.specs.Entries.{Entry}
 use Rattle.loaded.specs.EntryBytes.{entryBytes, entriesBytes}
 use Rattle.loaded.specs.Reader.{indexIn}
-use Rattle.entry.specs.Read.{contentRead, Reads}
-use Rattle.loader.specs.declared.changes.LastKept.{LastKept}
-use Rattle.loader.specs.declared.changes.LastKept.the-variants as last
+use Rattle.entry.specs.declared.kept.KeptChange.the-variants.{Nothing}
+use Rattle.entry.specs.Kept.{repeatsKept, lastContent, keptContent}
 use Rattle.loader.specs.declared.changes.Loading.{Loading}
 
 pub record Output : Type 0 where
@@ -31,11 +30,6 @@ abbrev pub output : (count used : ℕ) → Option Content → (index bytes : Lis
 output n u l i b = record { count = n; used = u; last = l; index = i; bytes = b }
 
 -- ---- one change more
-
--- a content repeats that of the last kept entry
-abbrev pub repeatsKept : Option Content → Content → Bool
-repeatsKept none c = false
-repeatsKept (some a) c = repeats a c
 
 -- kept: counted, and where outputs are written, its index and its bytes stored
 abbrev pub kept : SignalEncoding → (C : ℕ) → (write : Bool) → Output → (index : ℕ) → Content → Output
@@ -57,24 +51,13 @@ Room w o i b = w ≡ true → (o .count ≤ i) × (o .used ≤ b)
 
 -- ---- what the code holds of it: the last kept change by its place in the image
 
-abbrev pub lastIn : SignalEncoding → (image : List ℕ) → LastKept → Option Content
-lastIn k b last.Nothing = none
-lastIn k b (last.Change v n) = some (contentRead k b v n)
-
--- reading answered it
-abbrev pub LastReads : SignalEncoding → (image : List ℕ) → LastKept → Type 0
-LastReads k b last.Nothing = Unit {0}
-LastReads k b (last.Change v n) = Reads k b v n
+abbrev pub nothingKept : Loading
+nothingKept = record { count = 0; used = 0; top = 0; last = Nothing }
 
 abbrev pub outputAs : SignalEncoding → (image : List ℕ) → Loading → (index bytes : List ℕ) → Output
-outputAs k b s i o = output (s .count) (s .used) (lastIn k b (s .last)) i o
+outputAs k b s i o = output (s .count) (s .used) (keptContent k b (s .last)) i o
 
 -- ---- all of it
-
-abbrev pub lastContent : List Entry → Option Content
-lastContent [] = none
-lastContent (e ∷ []) = some (e .content)
-lastContent (e ∷ f ∷ es) = lastContent (f ∷ es)
 
 -- the outputs, lent as index and bytes, with these entries kept
 abbrev pub holding : SignalEncoding → (C : ℕ) → (write : Bool) → (index bytes : List ℕ) → List Entry → Output

@@ -1,8 +1,8 @@
 // The blocks of an accepted image, in order.
-use crate::changes::LastKept;
 use crate::changes::Loading;
-use crate::changes::first_index;
 use crate::changes::load_block;
+use crate::changes::nothing_kept;
+use crate::changes::table_base;
 use value::states::States;
 use walk::block::first_block;
 use walk::block::next_block;
@@ -34,13 +34,7 @@ pub fn load_blocks(
     let mut at = first_block(image);
     let mut number: u32 = 0;
     let mut times: u32 = 0;
-    let last = LastKept::Nothing;
-    let mut state = Loading {
-        count: 0,
-        used: 0,
-        top: 0,
-        last,
-    };
+    let mut state = nothing_kept();
     while number < blocks {
         state = load_block(
             image,
@@ -54,7 +48,7 @@ pub fn load_blocks(
             index,
             bytes,
         );
-        times = first_index(number, times) + times_in(image, at);
+        times = table_base(number, times) + times_in(image, at);
         at = next_block(image, at);
         number += 1;
     }

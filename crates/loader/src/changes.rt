@@ -1,6 +1,7 @@
 // The changes of one stream: repeats dropped, the others counted, and written where outputs are.
+use entry::kept::KeptChange;
+use entry::kept::repeats_last;
 use entry::put::put_entry;
-use entry::same::same_content;
 use signal::decode::ChangeValue;
 use signal::kind::SignalEncoding;
 use stream::read::ReadChange;
@@ -9,7 +10,6 @@ use value::states::States;
 use walk::head::kind_at;
 use walk::part::part_in;
 ghost use mathlib.Core.Path.{_≡_};
-ghost use mathlib.Core.Bool.{true};
 ghost use Prim.Native.Nat.{suc, _+_, _≤_, _<_, max, _^_};
 ghost use lib.ListN.{length, set};
 ghost use lib.Seq.{sets};
@@ -18,37 +18,28 @@ ghost use Rattle.signal.specs.Content.{symbolsOf};
 ghost use Rattle.loaded.specs.EntryBytes.{entryBytes};
 ghost use Rattle.loaded.specs.Opener.{kindAt};
 ghost use Rattle.entry.specs.Read.{contentRead, Reads};
+ghost use Rattle.entry.specs.Kept.{KeptReads};
 ghost use Rattle.walk.specs.Walk.{Opened, imageIn, blockPlace, BlockHere};
-ghost use Rattle.loader.specs.Output.{repeatsKept, taken, Room, lastIn, LastReads, outputAs};
+ghost use Rattle.loader.specs.Output.{taken, Room, nothingKept, outputAs};
 ghost use Rattle.loader.specs.Blocks.{baseOf, topOf, outputIn, blockTaken};
-
-// The last kept change: its value, and the place in the image after it.
-pub enum LastKept {
-    Nothing,
-    Change(ChangeValue, usize),
-}
 
 // How many entries are kept, how many bytes of the output they took, the largest top class, the last of them.
 pub struct Loading {
     pub count: u32,
     pub used: usize,
     pub top: u8,
-    pub last: LastKept,
+    pub last: KeptChange,
 }
 
-fn repeats_last(
-    image: &[u8],
-    kind: SignalEncoding,
-    last: LastKept,
-    value: ChangeValue,
-    next: usize,
-) -> bool
-    requires { ⌜ LastReads kind (now image) last × Reads kind (now image) value next ⌝ }
-    ensures { λ r. ⌜ r ≡ repeatsKept (lastIn kind (now (image .entry)) last) (contentRead kind (now (image .entry)) value next) ⌝ }
+pub fn nothing_kept() -> Loading
+    ensures { λ r. ⌜ r ≡ nothingKept ⌝ }
 {
-    match last {
-        LastKept::Nothing => false,
-        LastKept::Change(said, end) => same_content(image, said, end, image, value, next, kind),
+    let last = KeptChange::Nothing;
+    Loading {
+        count: 0,
+        used: 0,
+        top: 0,
+        last,
     }
 }
 
@@ -75,7 +66,7 @@ fn write_entry(
 }
 
 // With one entry more, of which so many bytes are used then.
-fn one_more(state: Loading, used: usize, last: LastKept) -> Loading
+fn one_more(state: Loading, used: usize, last: KeptChange) -> Loading
     requires { ⌜ state .count + 1 < 2 ^ 32 ⌝ }
     ensures { λ r. ⌜ (r .count ≡ state .count + 1) × (r .used ≡ used) × (r .top ≡ state .top) × (r .last ≡ last) ⌝ }
 {
@@ -102,15 +93,15 @@ fn take_change(
     index: &mut [u32],
     bytes: &mut [u8],
 ) -> Loading
-    requires { ⌜ LastReads kind (now image) (state .last) × Reads kind (now image) value next × (classOfAll (symbolsOf (contentRead kind (now image) value next)) ≤ classNumber class) ⌝ }
+    requires { ⌜ KeptReads kind (now image) (state .last) × Reads kind (now image) value next × (classOfAll (symbolsOf (contentRead kind (now image) value next)) ≤ classNumber class) ⌝ }
     requires { ⌜ (state .count + 1 < 2 ^ 32) × Room write (taken kind (classNumber class) write (outputAs kind (now image) state (now index) (now bytes)) i (contentRead kind (now image) value next)) (length (now index)) (length (now bytes)) ⌝ }
-    ensures { λ r. ⌜ LastReads kind (now (image .entry)) (r .last) × (r .top ≡ state .top) × (r .count ≤ state .count + 1) × (outputAs kind (now (image .entry)) r (now (index .exit)) (now (bytes .exit)) ≡ taken kind (classNumber class) write (outputAs kind (now (image .entry)) state (now (index .entry)) (now (bytes .entry))) i (contentRead kind (now (image .entry)) value next)) ⌝ }
+    ensures { λ r. ⌜ KeptReads kind (now (image .entry)) (r .last) × (r .top ≡ state .top) × (r .count ≤ state .count + 1) × (outputAs kind (now (image .entry)) r (now (index .exit)) (now (bytes .exit)) ≡ taken kind (classNumber class) write (outputAs kind (now (image .entry)) state (now (index .entry)) (now (bytes .entry))) i (contentRead kind (now (image .entry)) value next)) ⌝ }
 {
     let kept = state.last;
     if repeats_last(image, kind, kept, value, next) {
         return state;
     }
-    let last = LastKept::Change(value, next);
+    let last = KeptChange::Change(value, next);
     if write {
         let used = write_entry(image, kind, class, value, next, i, state, index, bytes);
         return one_more(state, used, last);
@@ -143,7 +134,7 @@ fn raised(state: Loading, top: u8) -> Loading
 }
 
 // Where the times of a block begin in the combined table: its first time is there already, unless it is the first block.
-pub fn first_index(number: u32, times: u32) -> u32
+pub fn table_base(number: u32, times: u32) -> u32
     requires { ⌜ number ≤ times ⌝ }
     ensures { λ r. ⌜ r ≡ baseOf number times ⌝ }
 {
@@ -166,33 +157,22 @@ pub fn load_block(
     index: &mut [u32],
     bytes: &mut [u8],
 ) -> Loading
-    requires { ⌜ Opened (now image) × BlockHere number at (now image) × LastReads (kindAt (imageIn (now image)) signal) (now image) (state .last) × (topOf (imageIn (now image)) number signal ≤ classNumber class) ⌝ }
+    requires { ⌜ Opened (now image) × BlockHere number at (now image) × KeptReads (kindAt (imageIn (now image)) signal) (now image) (state .last) × (topOf (imageIn (now image)) number signal ≤ classNumber class) ⌝ }
     requires { ⌜ (number ≤ times) × (times ≤ at) × (state .count ≤ at) × Room write (blockTaken (now image) number signal times (classNumber class) write (outputIn (now image) signal state (now index) (now bytes))) (length (now index)) (length (now bytes)) ⌝ }
-    ensures { λ r. ⌜ LastReads (kindAt (imageIn (now (image .entry))) signal) (now (image .entry)) (r .last) × (r .top ≡ max (state .top) (topOf (imageIn (now (image .entry))) number signal)) × (r .count ≤ blockPlace (imageIn (now (image .entry))) (suc number)) × (outputIn (now (image .entry)) signal r (now (index .exit)) (now (bytes .exit)) ≡ blockTaken (now (image .entry)) number signal times (classNumber class) write (outputIn (now (image .entry)) signal state (now (index .entry)) (now (bytes .entry)))) ⌝ }
+    ensures { λ r. ⌜ KeptReads (kindAt (imageIn (now (image .entry))) signal) (now (image .entry)) (r .last) × (r .top ≡ max (state .top) (topOf (imageIn (now (image .entry))) number signal)) × (r .count ≤ blockPlace (imageIn (now (image .entry))) (suc number)) × (outputIn (now (image .entry)) signal r (now (index .exit)) (now (bytes .exit)) ≡ blockTaken (now (image .entry)) number signal times (classNumber class) write (outputIn (now (image .entry)) signal state (now (index .entry)) (now (bytes .entry)))) ⌝ }
 {
     let kind = kind_at(image, signal);
     let part = part_in(image, at, signal);
     let to = part.to;
     let mut p = part.from;
-    let mut i = first_index(number, times);
+    let mut i = table_base(number, times);
     let mut state = raised(state, part.top);
     while p < to {
         match read_change(image, p, kind) {
             ReadChange::Change(d, value, next) => {
                 i += d;
                 p = next;
-                state = take_change(
-                    image,
-                    kind,
-                    class,
-                    write,
-                    value,
-                    next,
-                    i,
-                    state,
-                    index,
-                    bytes,
-                );
+                state = take_change(image, kind, class, write, value, p, i, state, index, bytes);
             }
             // an accepted image has no such stream
             ReadChange::Bad => {

@@ -9,21 +9,11 @@ ghost use mathlib.Core.Path.{_≡_};
 ghost use mathlib.Core.Bool.{true};
 ghost use Prim.Native.Nat.{_≤_};
 ghost use Rattle.value.specs.Class.{classNumber};
-ghost use Rattle.signal.specs.Kind.{absent, knownKind};
+ghost use Rattle.signal.specs.Kind.{knownKind};
 ghost use Rattle.image.specs.Head.{imageLimit};
 ghost use Rattle.loaded.specs.Reader.{loadReply, loadAfter, loadIn};
 ghost use Rattle.walk.specs.Walk.{Opened, imageIn};
 ghost use Rattle.loader.specs.Sizes.{tooShort, classAnswered};
-
-fn is_absent(kind: SignalEncoding) -> bool
-    ensures { λ r. ⌜ r ≡ absent kind ⌝ }
-{
-    match kind {
-        SignalEncoding::BitVector(_) => false,
-        SignalEncoding::Real => false,
-        SignalEncoding::Absent => true,
-    }
-}
 
 // Whether so many indices and bytes are too few for so many entries.
 fn too_short(kind: SignalEncoding, class: States, count: u32, indices: usize, room: usize) -> bool
@@ -55,7 +45,7 @@ pub fn load_in(image: &[u8], signal: u32, index: &mut [u32], bytes: &mut [u8]) -
     ensures { λ r. ⌜ loadAfter (loadReply r) (now (index .exit)) (now (bytes .exit)) ≡ loadIn (imageIn (now (image .entry))) signal (now (index .entry)) (now (bytes .entry)) ⌝ }
 {
     let kind = kind_at(image, signal);
-    if is_absent(kind) {
+    if kind.is_absent() {
         return LoadAnswer::Refused(4);
     }
     let counted = load_blocks(image, signal, States::Nine, false, index, bytes);

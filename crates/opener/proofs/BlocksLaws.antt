@@ -22,7 +22,7 @@ use Rattle.reading.specs.Decided.{uints, endOf}
 use Rattle.reading.proofs.PlaceLaws.{uints-length}
 use Rattle.parts.specs.Parts.{topsRead}
 use Rattle.parts.proofs.TopsLaws.{SameTops, store-same, store-length}
-use Rattle.blocks.specs.Blocks.{nextBlock, blockAt, timesIn, blockTops}
+use Rattle.blocks.specs.Blocks.{nextBlock, nextBlockAt, timesIn, blockTops}
 use Rattle.blocks.specs.declared.NextBlock.{NextBlock}
 use Rattle.blocks.specs.declared.NextBlock.the-variants.{At, Wrong}
 use Rattle.blocks.proofs.BlockLaws.{Step, block-step, block-same}
@@ -51,8 +51,8 @@ next-bad n (got b r) e = let z : _≡_ {A = ℕ} 0 1 = cc in absurd (omega arith
 
 -- ks are the kinds of S signals; l are the code's top classes and tops those of the definitions
 module _ (limit : ℕ) (ks : List SignalEncoding) (S : ℕ) (count : length ks ≡ S) (later : Bool) (end : ℕ) (l tops : List ℕ) (same : SameTops S l tops) (left : ℕ) (any : 0 < left)
-    (s : List ℕ) (at : ℕ) (y : Bytes s) (inside : at ≤ length s) (x : NextBlock) (e : x ≡ blockAt limit ks (endOf later end) l (left - 1) s at) where
-  by-tops : x ≡ blockAt limit ks (endOf later end) tops (left - 1) s at
+    (s : List ℕ) (at : ℕ) (y : Bytes s) (inside : at ≤ length s) (x : NextBlock) (e : x ≡ nextBlockAt limit ks (endOf later end) l (left - 1) s at) where
+  by-tops : x ≡ nextBlockAt limit ks (endOf later end) tops (left - 1) s at
   by-tops = e ∙ block-same limit ks (endOf later end) l tops (left - 1) s at (subst (λ (n : ℕ). SameTops n l tops) (sym count) same)
 
   more : blocksFill limit ks left (endOf later end) tops s at
@@ -63,7 +63,7 @@ module _ (limit : ℕ) (ks : List SignalEncoding) (S : ℕ) (count : length ks �
       ap (λ (n : ℕ). atEnd (walkBlocks limit ks n (endOf later end) tops .get (drop at s))) q ∙ ap atEnd (blocks-next limit ks (left - 1) (endOf later end) tops (drop at s))
 
   pub blocks-wrong : x ≡ Wrong → false ≡ blocksFill limit ks left (endOf later end) tops s at
-  unfolding blockAt
+  unfolding nextBlockAt
   blocks-wrong f =
       sym (more ∙ ap (λ (g : Got (Block (List Entry))). atEnd (andThen g (λ b r. andThen (walkBlocks limit ks (left - 1) (some (lastOr 0 (b .times))) (topsAfter tops (b .parts)) .get r) (λ l q. got (b ∷ l) q))))
       (next-bad (length s) (walkBlock limit ks (endOf later end) tops (left - 1) .get (drop at s)) (sym by-tops ∙ f)))

@@ -1,9 +1,8 @@
 -- Packed and raw values: document 01's bench sheet and its rules on raw values, computed.
 -- Assumes nothing.
-use Prim.Native.Nat.{ℕ}
 use mathlib.Core.Path.{_≡_, refl}
 use mathlib.Core.Bool.{true, false}
-use mathlib.Core.List.{List, [], _∷_}
+use mathlib.Core.List.{[], _∷_}
 use mathlib.Core.Option.{some, none}
 use Rattle.value.specs.Class.{classOfAll, allSymbols}
 use Rattle.packed.specs.Packed.{numberOf, digits, packed, unpacked, topClear}

@@ -1,7 +1,7 @@
 -- Raw values: where a raw value is bad, and that the bytes of packed symbols, after any bytes in front, say those symbols.
 -- Assumes nothing.
 use Prim.Native.Nat.{ℕ, zero, suc, _-_, _≤_, _<_}
-use mathlib.Core.Path.{_≡_, refl, ap, _∙_}
+use mathlib.Core.Path.{_≡_, refl, _∙_}
 use mathlib.Core.Bool.{Bool, true, false, or-true}
 use mathlib.Core.List.{List, _++_}
 use mathlib.Core.Option.{Option, some, none}
@@ -14,7 +14,6 @@ use Rattle.lists.specs.Choice.{pick}
 use Rattle.value.specs.Class.{statesOf, classOfAll, allSymbols, minStates}
 use Rattle.value.specs.Change.{changeOf}
 use Rattle.value.specs.declared.states.States.{States}
-use Rattle.value.specs.declared.states.MaybeStates.{MaybeStates}
 use Rattle.value.specs.declared.states.MaybeStates.the-variants.{Some, None}
 use Rattle.value.specs.declared.symbol.Bit.{Bit}
 use Rattle.value.specs.declared.change.BitVecChange.the-variants.{SingleBit, MultiBit, Bad}

@@ -1,10 +1,10 @@
 -- What a raw value that is not bad is: its claim, its bytes and its symbols.
 -- Assumes nothing.
 use Prim.Native.Nat.{ℕ, _≤_}
-use mathlib.Core.Path.{_≡_, refl, sym, _∙_}
+use mathlib.Core.Path.{_≡_, refl}
 use mathlib.Core.Bool.{Bool, true, false, _||_}
 use mathlib.Core.List.{List}
-use mathlib.Core.Option.{Option, some, none}
+use mathlib.Core.Option.{some, none}
 use native.Mathlib.Omega.{arith}
 use borrow.Author.Tests.{ltb-false}
 use lib.Dec.{ltb}
@@ -12,7 +12,7 @@ use lib.ListN.{length}
 use Rattle.lists.specs.Choice.{pick}
 use Rattle.value.specs.Class.{allSymbols}
 use Rattle.packed.specs.Packed.{packedLength, unpacked}
-use Rattle.packed.specs.Raw.{checked, lastOf, rawSymbols}
+use Rattle.packed.specs.Raw.{lastOf, rawSymbols}
 use Rattle.packed.proofs.PackedLaws.{length-unpacked}
 
 pub record RawSaid (w claim : ℕ) (v s : List ℕ) : Type 0 where

@@ -1,7 +1,7 @@
 -- Document 01, 'Symbol and value': what a raw value says: a claimed class and bytes, for a vector of a width. `none` is "bad".
 -- Assumes nothing.
 use Prim.Native.Nat.{ℕ, _-_}
-use mathlib.Core.Bool.{Bool, _||_}
+use mathlib.Core.Bool.{_||_}
 use mathlib.Core.List.{List}
 use mathlib.Core.Option.{Option, some, none}
 use lib.ListN.{length, drop}

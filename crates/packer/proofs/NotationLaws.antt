@@ -5,7 +5,6 @@ use mathlib.Core.Path.{_≡_}
 use mathlib.Core.List.{List}
 use lib.ListN.{length}
 use Rattle.value.specs.Class.{classNumber}
-use Rattle.vcd.specs.Vcd.{textSymbols, orEmpty}
 use Rattle.vcd.proofs.VcdLaws.{text-good}
 use Rattle.packed.proofs.PackedLaws.{length-unpacked}
 use Rattle.packer.specs.Notation.{symbolsFrom, Readable}

@@ -18,6 +18,7 @@ use Rattle.lists.proofs.BytesLaws.{drop-bytes}
 use Rattle.numbers.specs.LittleEndian.{unle}
 use Rattle.form.specs.Form.{Form, andThen, consTo, more, getChain, chain, repeat, uint}
 use Rattle.form.proofs.FormLaws.{Laws, next-bytes}
+use Rattle.form.proofs.WholeLaws.{chain-more, chain-end}
 use Rattle.reading.specs.Decided.{uints}
 
 -- a value read at place p of s ends at place p + its length
@@ -43,16 +44,6 @@ more-same bad f h e = refl
 more-same (got x r) f h e = ap (consTo x) (e x r refl)
 
 module _ {I A : Type 0} (c : I → Form A) (n : A → I) (C : (i : I) → Laws (c i)) (long : (i : I) (x : A) → c i .Ok x → 0 < length (c i .put x)) where
-  chain-more : (k : ℕ) (i : I) (s : List ℕ) → 0 < length s → getChain c n (suc k) i s ≡ more (c i .get s) (λ x r. getChain c n k (n x) r)
-  unfolding getChain
-  chain-more k i [] h = absurd (omega arith)
-  chain-more k i (b ∷ s) h = refl
-
-  chain-end : (k : ℕ) (i : I) → getChain c n k i [] ≡ some []
-  unfolding getChain
-  chain-end zero i = refl
-  chain-end (suc k) i = refl
-
   -- what is left is shorter
   shorter : (i : I) (s : List ℕ) (x : A) (r : List ℕ) → Bytes s → c i .get s ≡ got x r → Bytes r × (length r < length s)
   shorter i s x r y e =
@@ -60,27 +51,27 @@ module _ {I A : Type 0} (c : I → Form A) (n : A → I) (C : (i : I) → Laws (
       (next-bytes w y, omega (arith, ap length (w .form), length-append (c i .put x) r, long i x (w .ok)))
 
   enough : (b k l : ℕ) (i : I) (s : List ℕ) → Bytes s → length s ≤ b → length s ≤ k → length s ≤ l → getChain c n k i s ≡ getChain c n l i s
-  enough zero k l i [] y h p q = chain-end k i ∙ sym (chain-end l i)
+  enough zero k l i [] y h p q = chain-end c n k i ∙ sym (chain-end c n l i)
   enough zero k l i (x ∷ s) y h p q = absurd (omega arith)
-  enough (suc b) k l i [] y h p q = chain-end k i ∙ sym (chain-end l i)
+  enough (suc b) k l i [] y h p q = chain-end c n k i ∙ sym (chain-end c n l i)
   enough (suc b) zero l i (x ∷ s) y h p q = absurd (omega arith)
   enough (suc b) (suc k) zero i (x ∷ s) y h p q = absurd (omega arith)
   enough (suc b) (suc k) (suc l) i (x ∷ s) y h p q =
-      chain-more k i (x ∷ s) (omega arith)
+      chain-more c n k i (x ∷ s) (omega arith)
       ∙ more-same (c i .get (x ∷ s)) (λ a r. getChain c n k (n a) r) (λ a r. getChain c n l (n a) r)
       (λ a r e. let t = shorter i (x ∷ s) a r y e in enough b k l (n a) r (t .0) (omega arith) (omega arith) (omega arith))
-      ∙ sym (chain-more l i (x ∷ s) (omega arith))
+      ∙ sym (chain-more c n l i (x ∷ s) (omega arith))
 
   -- one turn
   pub chain-turn : (i : I) (s : List ℕ) → Bytes s → 0 < length s → chain c n i .read s ≡ more (c i .get s) (λ x r. chain c n (n x) .read r)
   chain-turn i [] y h = absurd (omega arith)
   chain-turn i (x ∷ s) y h =
-      chain-more (length s) i (x ∷ s) h
+      chain-more c n (length s) i (x ∷ s) h
       ∙ more-same (c i .get (x ∷ s)) (λ a r. getChain c n (length s) (n a) r) (λ a r. getChain c n (length r) (n a) r)
       (λ a r e. let t = shorter i (x ∷ s) a r y e in enough (length r) (length s) (length r) (n a) r (t .0) (omega arith) (omega arith) (omega arith))
 
   pub chain-stop : (i : I) → chain c n i .read [] ≡ some []
-  chain-stop i = chain-end 0 i
+  chain-stop i = chain-end c n 0 i
 
 -- ---- numbers
 

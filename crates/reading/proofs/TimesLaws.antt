@@ -13,10 +13,10 @@ use Rattle.lists.specs.Got.{Got}
 use Rattle.lists.specs.Last.{lastOr}
 use Rattle.numbers.specs.LittleEndian.{unle}
 use Rattle.form.specs.Form.{andThen, gotIf, ifYes}
-use Rattle.form.specs.Decide.{le?, lt?, eq?, both}
+use Rattle.form.specs.Decide.{le?, lt?, eq?, false-true, both}
 use Rattle.codec.specs.Valid.{risingFrom?, rising?, begins?}
 use Rattle.reading.specs.Decided.{isYes, uints, endOf}
-use Rattle.reading.specs.Times.{lastOf, timesAt, beginsAt, riseFrom, risingAt}
+use Rattle.reading.specs.Times.{lastTime, timesAt, beginsAt, riseFrom, risingAt}
 use Rattle.reading.specs.declared.times.Times.{Times}
 use Rattle.reading.specs.declared.times.Times.the-variants.{Last, Wrong}
 use Rattle.reading.proofs.DecidedLaws.{yes-le, yes-lt, yes-eq, yes-both, pick-both}
@@ -96,32 +96,9 @@ rise-end t n i s at e = ap (riseFrom t) (uints-none 8 (n - i) s (at + 8 * i) (om
 
 -- ---- both
 
-last-yes : {P : Type 0} (d : Dec P) (q r : List ℕ) → lastOf (gotIf (ifYes d q) r) ≡ pick (isYes d) (Last (lastOr 0 q)) Wrong
+last-yes : {P : Type 0} (d : Dec P) (q r : List ℕ) → lastTime (gotIf (ifYes d q) r) ≡ pick (isYes d) (Last (lastOr 0 q)) Wrong
 last-yes (yes p) q r = refl
 last-yes (no p) q r = refl
-
-pub times-is : (n : ℕ) (s : List ℕ) (at : ℕ) (later : Bool) (end : ℕ) → at + 8 * n ≤ length s → timesAt n s at later end ≡ pick (beginsAt n s at later end) (risingAt n s at) Wrong
-unfolding timesAt beginsAt risingAt
-times-is n s at later end h =
-    let l : List ℕ = uints 8 n s at in
-    let f = both (begins? (endOf later end) l) (rising? l) in
-    ap (λ (g : Got (List ℕ)). lastOf (andThen g (λ x r. gotIf (ifYes (both (begins? (endOf later end) x) (rising? x)) x) r))) (uints-at 8 n s at h)
-    ∙ last-yes f l (drop (at + 8 * n) s)
-    ∙ ap (λ (t : Bool). pick t (Last (lastOr 0 l)) Wrong) (yes-both (begins? (endOf later end) l) (rising? l))
-    ∙ pick-both (isYes (begins? (endOf later end) l)) (isYes (rising? l)) (Last (lastOr 0 l)) Wrong
-
-none-begins : (n : ℕ) (s : List ℕ) (at : ℕ) (later : Bool) (end : ℕ) → n ≡ 0 → beginsAt n s at later end ≡ false
-none-begins n s at true end e = sym (begins-short n s at true end refl (omega arith))
-none-begins n s at false end e = sym (begins-first n s at false end refl) ∙ le-ltb 0 n (omega arith)
-
-pub times-none : (n : ℕ) (s : List ℕ) (at : ℕ) (later : Bool) (end : ℕ) → at + 8 * n ≤ length s → n ≡ 0 → Wrong ≡ timesAt n s at later end
-times-none n s at later end h e = sym (times-is n s at later end h ∙ ap (λ (t : Bool). pick t (risingAt n s at) Wrong) (none-begins n s at later end e))
-
-pub times-begins : (n : ℕ) (s : List ℕ) (at : ℕ) (later : Bool) (end : ℕ) (t : Bool) → at + 8 * n ≤ length s → t ≡ beginsAt n s at later end → t ≡ false → Wrong ≡ timesAt n s at later end
-times-begins n s at later end t h e f = sym (times-is n s at later end h ∙ ap (λ (t : Bool). pick t (risingAt n s at) Wrong) (sym e ∙ f))
-
-pub times-rising : (n : ℕ) (s : List ℕ) (at : ℕ) (later : Bool) (end : ℕ) (t : Bool) (x : Times) → at + 8 * n ≤ length s → t ≡ beginsAt n s at later end → t ≡ true → x ≡ risingAt n s at → x ≡ timesAt n s at later end
-times-rising n s at later end t x h e f q = q ∙ sym (times-is n s at later end h ∙ ap (λ (t : Bool). pick t (risingAt n s at) Wrong) (sym e ∙ f))
 
 -- all tests at once
 pub times-yes : (n : ℕ) (s : List ℕ) (at : ℕ) (later : Bool) (end : ℕ) → at + 8 * n ≤ length s
@@ -129,5 +106,28 @@ pub times-yes : (n : ℕ) (s : List ℕ) (at : ℕ) (later : Bool) (end : ℕ) �
 unfolding timesAt
 times-yes n s at later end h =
     let l : List ℕ = uints 8 n s at in
-    ap (λ (g : Got (List ℕ)). lastOf (andThen g (λ x r. gotIf (ifYes (both (begins? (endOf later end) x) (rising? x)) x) r))) (uints-at 8 n s at h)
+    ap (λ (g : Got (List ℕ)). lastTime (andThen g (λ x r. gotIf (ifYes (both (begins? (endOf later end) x) (rising? x)) x) r))) (uints-at 8 n s at h)
     ∙ last-yes (both (begins? (endOf later end) l) (rising? l)) l (drop (at + 8 * n) s)
+
+pub times-is : (n : ℕ) (s : List ℕ) (at : ℕ) (later : Bool) (end : ℕ) → at + 8 * n ≤ length s → timesAt n s at later end ≡ pick (beginsAt n s at later end) (risingAt n s at) Wrong
+unfolding beginsAt risingAt
+times-is n s at later end h =
+    let l : List ℕ = uints 8 n s at in
+    times-yes n s at later end h
+    ∙ ap (λ (t : Bool). pick t (Last (lastOr 0 l)) Wrong) (yes-both (begins? (endOf later end) l) (rising? l))
+    ∙ pick-both (isYes (begins? (endOf later end) l)) (isYes (rising? l)) (Last (lastOr 0 l)) Wrong
+
+none-begins : (n : ℕ) (s : List ℕ) (at : ℕ) (later : Bool) (end : ℕ) → n ≡ 0 → beginsAt n s at later end ≡ false
+none-begins n s at true end e = sym (begins-short n s at true end refl (omega arith))
+none-begins n s at false end e = sym (begins-first n s at false end refl) ∙ le-ltb 0 n (omega arith)
+
+-- a block begins with a time
+pub begins-some : (n : ℕ) (s : List ℕ) (at : ℕ) (later : Bool) (end : ℕ) → beginsAt n s at later end ≡ true → 0 < n
+begins-some zero s at later end e = absurd (false-true (sym (none-begins zero s at later end refl) ∙ e))
+begins-some (suc n) s at later end e = omega arith
+
+pub times-begins : (n : ℕ) (s : List ℕ) (at : ℕ) (later : Bool) (end : ℕ) (t : Bool) → at + 8 * n ≤ length s → t ≡ beginsAt n s at later end → t ≡ false → Wrong ≡ timesAt n s at later end
+times-begins n s at later end t h e f = sym (times-is n s at later end h ∙ ap (λ (t : Bool). pick t (risingAt n s at) Wrong) (sym e ∙ f))
+
+pub times-rising : (n : ℕ) (s : List ℕ) (at : ℕ) (later : Bool) (end : ℕ) (t : Bool) (x : Times) → at + 8 * n ≤ length s → t ≡ beginsAt n s at later end → t ≡ true → x ≡ risingAt n s at → x ≡ timesAt n s at later end
+times-rising n s at later end t x h e f q = q ∙ sym (times-is n s at later end h ∙ ap (λ (t : Bool). pick t (risingAt n s at) Wrong) (sym e ∙ f))

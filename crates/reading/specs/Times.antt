@@ -1,6 +1,6 @@
 -- What the code answers of the times of a block: the last one.
 -- Assumes nothing.
-use Prim.Native.Nat.{ℕ, _-_}
+use Prim.Native.Nat.{ℕ}
 use mathlib.Core.Bool.{Bool}
 use mathlib.Core.List.{List, [], _∷_}
 use lib.Dec.{ltb}
@@ -14,12 +14,12 @@ use Rattle.reading.specs.Decided.{isYes, uints, endOf}
 use Rattle.reading.specs.declared.times.Times.{Times}
 use Rattle.reading.specs.declared.times.Times.the-variants.{Last, Wrong}
 
-abbrev pub lastOf : Got (List ℕ) → Times
-lastOf bad = Wrong
-lastOf (got ts r) = Last (lastOr 0 ts)
+abbrev pub lastTime : Got (List ℕ) → Times
+lastTime bad = Wrong
+lastTime (got ts r) = Last (lastOr 0 ts)
 
 unfoldable pub timesAt : (n : ℕ) → List ℕ → (at : ℕ) → (later : Bool) → (end : ℕ) → Times
-timesAt n s at later end = lastOf (walkTimes (endOf later end) n .get (drop at s))
+timesAt n s at later end = lastTime (walkTimes (endOf later end) n .get (drop at s))
 
 unfoldable pub beginsAt : (n : ℕ) → List ℕ → (at : ℕ) → (later : Bool) → (end : ℕ) → Bool
 beginsAt n s at later end = isYes (begins? (endOf later end) (uints 8 n s at))

@@ -48,9 +48,6 @@ pub fn times_at(s: &[u8], at: usize, n: usize, later: bool, end: u64) -> Times
     requires { ⌜ at + 8 * n ≤ length (now s) ⌝ }
     ensures { λ r. ⌜ r ≡ timesAt n (now (s .entry)) at later end ⌝ }
 {
-    if n == 0 {
-        return Times::Wrong;
-    }
     if !begins(s, at, n, later, end) {
         return Times::Wrong;
     }

@@ -9,7 +9,7 @@ use crate::call::read_value;
 use crate::checksum::checksum;
 use crate::record::put_records;
 use crate::recorder::perform;
-use encoder::Outcome;
+use plan::Outcome;
 use recording::Answer;
 use recording::Encoder;
 use text::before;

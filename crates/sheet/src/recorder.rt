@@ -1,13 +1,13 @@
 // The recorder's entry points, each by its call.
 use crate::call::Call;
 use change::notation::Value;
-use encoder::Outcome;
-use encoder::changes::raw_value_change;
-use encoder::changes::real_change;
-use encoder::changes::vcd_value_change;
-use encoder::finish::finish;
-use encoder::start::start;
-use encoder::time::time_change;
+use flat::changes::raw_value_change;
+use flat::changes::real_change;
+use flat::changes::vcd_value_change;
+use flat::finish::finish;
+use flat::start::start;
+use flat::time::time_change;
+use plan::Outcome;
 use recording::Encoder;
 use recording::SignalRef;
 

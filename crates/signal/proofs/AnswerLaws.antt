@@ -1,9 +1,8 @@
 -- Decoding's answers, one law for each way through the code.
 -- Assumes nothing.
 use Prim.Native.Nat.{ℕ, zero, suc, _≤_, _<_, max}
-use mathlib.Core.Path.{_≡_, refl, sym, ap, ap₂, _∙_}
+use mathlib.Core.Path.{_≡_, refl}
 use mathlib.Core.List.{List}
-use native.Mathlib.Omega.{arith}
 use borrow.Author.Tests.{le-leb, lt-leb}
 use lib.ListN.{length}
 use Rattle.value.specs.Class.{statesOf, classNumber, classOf}
@@ -19,11 +18,9 @@ use Rattle.packed.specs.Raw.{rawSymbols}
 use Rattle.packed.proofs.RawLaws.{raw-claim}
 use Rattle.signal.specs.declared.kind.SignalEncoding.{SignalEncoding}
 use Rattle.signal.specs.declared.kind.SignalEncoding.the-variants.{BitVector, Real, Absent}
-use Rattle.signal.specs.declared.decode.ChangeValue.{ChangeValue}
 use Rattle.signal.specs.declared.decode.ChangeValue.the-variants as value
-use Rattle.signal.specs.declared.decode.DecodedChange.{DecodedChange}
 use Rattle.signal.specs.declared.decode.DecodedChange.the-variants.{Change, Refused}
-use Rattle.signal.specs.Content.{Given, vcd, raw, real, vectorSays, eventSays, decode}
+use Rattle.signal.specs.Content.{vcd, raw, real, eventSays, decode}
 use Rattle.signal.specs.Answer.{decodedAs, vectorAnswer}
 use Rattle.signal.proofs.DecodeLaws.{vector-answer, vcd-wide, raw-wide}
 

@@ -1,7 +1,6 @@
 -- What a change call says to a signal of a kind, computed: document 01, 'Symbol and value', 'Stream of one signal' and
 -- 'Turned back' (4, 5, 6).
 -- Assumes nothing.
-use Prim.Native.Nat.{ℕ}
 use mathlib.Core.Path.{_≡_, refl}
 use mathlib.Core.List.{List, [], _∷_, map}
 use Rattle.value.specs.Symbol.{symbolOf}

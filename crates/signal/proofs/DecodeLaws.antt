@@ -17,16 +17,14 @@ use Rattle.value.specs.declared.symbol.Bit.{Bit}
 use Rattle.value.proofs.ClassLaws.{number-states, class-all-small}
 use Rattle.signal.specs.declared.kind.SignalEncoding.{SignalEncoding}
 use Rattle.signal.specs.declared.kind.SignalEncoding.the-variants.{BitVector, Real, Absent}
-use Rattle.signal.specs.declared.decode.ChangeValue.{ChangeValue}
 use Rattle.signal.specs.declared.decode.ChangeValue.the-variants as value
-use Rattle.signal.specs.declared.decode.DecodedChange.{DecodedChange}
-use Rattle.signal.specs.declared.decode.DecodedChange.the-variants.{Change, Refused}
+use Rattle.signal.specs.declared.decode.DecodedChange.the-variants.{Change}
 use Rattle.vcd.specs.Vcd.{vcdSymbols}
 use Rattle.vcd.proofs.VcdLaws.{vcd-length, vcd-symbols}
 use Rattle.packed.specs.Raw.{rawSymbols}
 use Rattle.packed.proofs.RawSaid.{raw-said, raw-length}
 use Rattle.signal.specs.Kind.{topLimit}
-use Rattle.signal.specs.Content.{Content, happened, symbols, bits, symbolsOf, ContentFits, Given, vcd, raw, real, GivenFits, Decoded, refuse, accept, vectorSays, eventSays, decode}
+use Rattle.signal.specs.Content.{Content, happened, symbols, bits, symbolsOf, ContentFits, Given, vcd, raw, real, GivenFits, refuse, accept, vectorSays, eventSays, decode}
 use Rattle.signal.specs.Answer.{decodedAs, vectorAnswer}
 
 -- symbols of a width, where there are any

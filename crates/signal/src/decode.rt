@@ -6,7 +6,6 @@ use value::states::States;
 use value::symbol::Bit;
 use vcd::decode_vcd_bit_vec_change;
 ghost use mathlib.Core.Path.{_≡_};
-ghost use Rattle.value.specs.Change.{changeOf};
 ghost use Rattle.value.specs.Class.{classNumber};
 ghost use Rattle.signal.specs.Content.{decode, eventSays, vcd, raw, real};
 ghost use Rattle.signal.specs.Answer.{decodedAs, vectorAnswer};

@@ -1,6 +1,6 @@
 // Kinds of signals, after wellen's SignalEncoding.
 ghost use mathlib.Core.Path.{_≡_};
-ghost use Rattle.signal.specs.Kind.{widthOf};
+ghost use Rattle.signal.specs.Kind.{widthOf, absent};
 
 // A vector of width 0 is an event.
 pub enum SignalEncoding {
@@ -18,6 +18,16 @@ impl SignalEncoding {
             SignalEncoding::BitVector(width) => width,
             SignalEncoding::Real => 0,
             SignalEncoding::Absent => 0,
+        }
+    }
+
+    pub fn is_absent(self) -> bool
+        ensures { λ r. ⌜ r ≡ absent self ⌝ }
+    {
+        match self {
+            SignalEncoding::BitVector(_) => false,
+            SignalEncoding::Real => false,
+            SignalEncoding::Absent => true,
         }
     }
 }

@@ -121,42 +121,6 @@ records-set (x ∷ l) (suc i) n = ap (λ (t : List SignalRecord). recordFrom x �
 pub record-stored : (l : List ℕ) (i n : ℕ) (r : SignalRecord) → Storable r → n ≡ numberFrom r → recordsOf (set l i n) ≡ set (recordsOf l) i r
 record-stored l i n r s e = records-set l i n ∙ ap (set (recordsOf l) i) (ap recordFrom e ∙ record-number r s)
 
--- ---- a change of every record, from the first on
-
--- what a loop that has changed i of them makes of the list
-unfoldable pub restBy : (SignalRecord → SignalRecord) → ℕ → List SignalRecord → List SignalRecord
-restBy f zero l = map f l
-restBy f (suc i) [] = []
-restBy f (suc i) (r ∷ l) = r ∷ restBy f i l
-
-pub rest-none : (f : SignalRecord → SignalRecord) (l : List SignalRecord) → restBy f 0 l ≡ map f l
-unfolding restBy
-rest-none f l = refl
-
-pub rest-all : (f : SignalRecord → SignalRecord) (i : ℕ) (l : List SignalRecord) → length l ≤ i → restBy f i l ≡ l
-unfolding restBy
-rest-all f zero [] h = refl
-rest-all f zero (r ∷ l) h = absurd (omega arith)
-rest-all f (suc i) [] h = refl
-rest-all f (suc i) (r ∷ l) h = ap (λ (t : List SignalRecord). r ∷ t) (rest-all f i l (omega arith))
-
-rest-next : (f : SignalRecord → SignalRecord) (i : ℕ) (l : List SignalRecord) (d : SignalRecord) → i < length l
-    → restBy f (suc i) (set l i (f (getD l i d))) ≡ restBy f i l
-unfolding restBy
-rest-next f i [] d h = absurd (omega arith)
-rest-next f zero (r ∷ l) d h = refl
-rest-next f (suc i) (r ∷ l) d h = ap (λ (t : List SignalRecord). r ∷ t) (rest-next f i l d (omega arith))
-
--- a turn of the loop: r is the changed record, n its number
-pub rest-turn : (f : SignalRecord → SignalRecord) (l : List ℕ) (i n : ℕ) (r : SignalRecord) → i < length l
-    → r ≡ f (recordFrom (getD l i 0)) → Storable r → n ≡ numberFrom r
-    → restBy f (suc i) (recordsOf (set l i n)) ≡ restBy f i (recordsOf l)
-rest-turn f l i n r h e s k =
-    let d : SignalRecord = recordOf Absent 0 Two in
-    let g : r ≡ f (getD (recordsOf l) i d) = e ∙ ap f (sym (records-get l i d h)) in
-    let m : i < length (recordsOf l) = rw (records-length l) h in
-    ap (restBy f (suc i)) (record-stored l i n r s k ∙ ap (set (recordsOf l) i) g) ∙ rest-next f i (recordsOf l) d m
-
 -- ---- an unknown kind
 
 pub unknown-none : (l : List ℕ) (i : ℕ) → length l ≤ i → unknownKind (recordsOf (drop i l)) ≡ false

@@ -8,7 +8,6 @@ use recording::SignalRef;
 use signal::kind::SignalEncoding;
 use value::states::States;
 ghost use mathlib.Core.Path.{_≡_};
-ghost use mathlib.Core.List.{map};
 ghost use lib.ListN.{getD, set};
 ghost use Rattle.signal.specs.Kind.{knownKind};
 ghost use Rattle.image.specs.Head.{kindNumber};
@@ -149,24 +148,4 @@ pub fn has_unknown_kind(records: &[u64]) -> bool
         i += 1;
     }
     false
-}
-
-pub fn reset_records(records: &mut [u64])
-    ensures { λ r. ⌜ recordsOf (now (records .exit)) ≡ map step.fresh (recordsOf (now (records .entry))) ⌝ }
-{
-    let mut i = 0;
-    while i < records.len() {
-        records[i] = number_from(fresh(record_from(records[i])));
-        i += 1;
-    }
-}
-
-pub fn rewind_records(records: &mut [u64])
-    ensures { λ r. ⌜ recordsOf (now (records .exit)) ≡ map step.rewound (recordsOf (now (records .entry))) ⌝ }
-{
-    let mut i = 0;
-    while i < records.len() {
-        records[i] = number_from(rewound(record_from(records[i])));
-        i += 1;
-    }
 }

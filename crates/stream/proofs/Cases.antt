@@ -3,7 +3,7 @@
 use Prim.Native.Nat.{ℕ}
 use mathlib.Core.Path.{_≡_, refl}
 use mathlib.Core.List.{List, [], _∷_, _++_, map}
-use Rattle.lists.specs.Got.{Got, bad, got}
+use Rattle.lists.specs.Got.{bad, got}
 use Rattle.numbers.specs.Leb128.{groups, lebOf, readLeb}
 use Rattle.numbers.specs.LittleEndian.{le, unle}
 use Rattle.value.specs.Class.{classOfAll, allSymbols}
@@ -11,7 +11,7 @@ use Rattle.packed.specs.Packed.{numberOf, digits, packed, unpacked}
 use Rattle.signal.specs.declared.kind.SignalEncoding.{SignalEncoding}
 use Rattle.signal.specs.declared.kind.SignalEncoding.the-variants.{BitVector, Real, Absent}
 use Rattle.signal.specs.Content.{Content, happened, symbols, bits}
-use Rattle.stream.specs.Stream.{Change, change, changeBytes, valueAfter, readChange}
+use Rattle.stream.specs.Stream.{change, changeBytes, valueAfter, readChange}
 
 -- a kind, d, a content, and the bytes
 abbrev Case : Type 0

@@ -1,14 +1,13 @@
 -- The length of a change, from what the code knows of its value, is that of its bytes.
 -- Assumes nothing.
 use Prim.Native.Nat.{ℕ, zero, suc, _+_, _*_}
-use mathlib.Core.Path.{_≡_, refl, sym, ap, _∙_}
-use mathlib.Core.List.{List}
+use mathlib.Core.Path.{_≡_, sym, ap, _∙_}
 use native.Mathlib.Nat.{add-zero}
 use lib.ListN.{length, getD, length-append}
 use Rattle.numbers.specs.Leb128.{lebOf}
 use Rattle.numbers.specs.LittleEndian.{le}
 use Rattle.numbers.proofs.LittleEndianLaws.{length-le}
-use Rattle.value.specs.Class.{statesOf, classNumber, classOfAll}
+use Rattle.value.specs.Class.{classOfAll}
 use Rattle.value.proofs.ClassLaws.{number-states, class-all-small}
 use Rattle.packed.specs.Packed.{packed, packedLength}
 use Rattle.packed.proofs.PackedLaws.{length-packed}

@@ -1,9 +1,9 @@
 -- Reading by the tests that the code makes, one law for each way through it; places are counted in the whole list.
 -- Assumes nothing.
-use Prim.Native.Nat.{ℕ, zero, suc, _+_, _-_, _*_, _/_, _%_, _≤_, _<_}
-use mathlib.Core.Path.{_≡_, refl, sym, ap, ap₂, _∙_, subst}
+use Prim.Native.Nat.{ℕ, zero, suc, _+_, _-_, _/_, _%_, _≤_, _<_}
+use mathlib.Core.Path.{_≡_, refl, sym, ap, ap₂, _∙_}
 use mathlib.Core.Bool.{Bool, true, false, _&&_}
-use mathlib.Core.List.{List, [], _∷_, _++_}
+use mathlib.Core.List.{List, [], _∷_}
 use native.Mathlib.Omega.{arith}
 use borrow.Author.Tests.{le-leb, lt-leb, ne-eqb, eqb-true}
 use lib.Dec.{leb, eqb}
@@ -18,7 +18,7 @@ use Rattle.numbers.specs.Leb128.{lebOf, readLeb, lebAt}
 use Rattle.numbers.specs.LittleEndian.{unle}
 use Rattle.numbers.specs.declared.leb128.Leb128.{Leb128}
 use Rattle.numbers.specs.declared.leb128.Leb128.the-variants.{Value, Bad}
-use Rattle.numbers.proofs.Leb128Trip.{read-is, get-put, put-get, WrittenAt}
+use Rattle.numbers.proofs.Leb128Trip.{read-is, get-put, put-get}
 use Rattle.value.specs.Class.{classNumber, statesOf, classOfAll, allSymbols, minStates}
 use Rattle.value.specs.declared.states.States.{States}
 use Rattle.value.specs.declared.states.MaybeStates.{MaybeStates}
@@ -31,7 +31,6 @@ use Rattle.signal.specs.declared.decode.ChangeValue.{ChangeValue}
 use Rattle.signal.specs.declared.decode.ChangeValue.the-variants as value
 use Rattle.signal.specs.Content.{Content, happened, symbols, bits}
 use Rattle.signal.specs.Answer.{valueOf}
-use Rattle.stream.specs.declared.read.ReadChange.{ReadChange}
 use Rattle.stream.specs.declared.read.ReadChange.the-variants as read
 use Rattle.stream.specs.Stream.{Change, change, maxDelta, found, ownClass, wideAfter, valueAfter, readChange, afterNumber}
 use Rattle.stream.specs.Answer.{readAs, changeAt, answered, bitAnswered}

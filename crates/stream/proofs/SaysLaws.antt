@@ -4,21 +4,21 @@ use Prim.Native.Nat.{ℕ, zero, suc, _-_, _≤_, _<_}
 use mathlib.Core.Path.{_≡_, refl, sym, ap, _∙_, subst}
 use mathlib.Core.Bool.{Bool, true, false}
 use mathlib.Core.List.{List, [], _∷_}
-use mathlib.Core.Option.{Option, some, none}
+use mathlib.Core.Option.{Option, some}
 use native.Mathlib.Omega.{arith}
 use lib.Dec.{leb}
 use lib.ListN.{length, length-drop}
-use Rattle.lists.specs.Choice.{pick, isSome}
+use Rattle.lists.specs.Choice.{pick}
 use Rattle.numbers.specs.Leb128.{lebOf}
 use Rattle.value.specs.Class.{statesOf, classNumber, classOfAll, allSymbols}
 use Rattle.value.specs.declared.states.States.{States}
 use Rattle.value.specs.declared.symbol.Bit.{Bit}
 use Rattle.value.proofs.ClassLaws.{number-states}
-use Rattle.vcd.specs.Vcd.{vcdSymbols, textOf, textSymbols, orEmpty}
+use Rattle.vcd.specs.Vcd.{vcdSymbols, textOf, textSymbols}
 use Rattle.vcd.proofs.VcdLaws.{vcd-symbols}
 use Rattle.packed.specs.Packed.{packedLength, unpacked}
 use Rattle.packed.specs.Raw.{rawSymbols, lastOf}
-use Rattle.packed.proofs.RawSaid.{raw-said, RawSaid}
+use Rattle.packed.proofs.RawSaid.{raw-said}
 use Rattle.packer.specs.Notation.{symbolsFrom, Readable}
 use Rattle.packer.specs.declared.Notation.{Notation}
 use Rattle.packer.specs.declared.Notation.the-variants.{Ascii, Packed}
@@ -26,12 +26,11 @@ use Rattle.signal.specs.declared.kind.SignalEncoding.{SignalEncoding}
 use Rattle.signal.specs.declared.kind.SignalEncoding.the-variants.{BitVector, Real, Absent}
 use Rattle.signal.specs.declared.decode.ChangeValue.{ChangeValue}
 use Rattle.signal.specs.declared.decode.ChangeValue.the-variants as value
-use Rattle.signal.specs.declared.decode.DecodedChange.{DecodedChange}
 use Rattle.signal.specs.declared.decode.DecodedChange.the-variants.{Change, Refused}
 use Rattle.signal.specs.Kind.{widthOf}
-use Rattle.signal.specs.Content.{Content, happened, symbols, bits, ContentFits, Given, vcd, raw, real, GivenFits, Decoded, refuse, accept, contentOf, vectorSays, eventSays, decode}
+use Rattle.signal.specs.Content.{happened, symbols, Given, vcd, raw, real, GivenFits, Decoded, refuse, accept, contentOf, vectorSays, eventSays, decode}
 use Rattle.signal.specs.Answer.{valueOf, decodedAs}
-use Rattle.signal.proofs.DecodeLaws.{OneBit, one-bit, ManyBits, many-bits, no-event, no-real, vcd-wide, raw-wide, accepted}
+use Rattle.signal.proofs.DecodeLaws.{OneBit, one-bit, many-bits, no-event, no-real, vcd-wide, raw-wide, accepted}
 use Rattle.stream.specs.Stream.{changeBytes}
 use Rattle.stream.specs.Answer.{Says, saidBytes, changeLength}
 use Rattle.stream.proofs.StreamTrip.{first-symbol}

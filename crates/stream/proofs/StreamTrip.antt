@@ -29,8 +29,8 @@ use Rattle.packed.specs.Packed.{packed, unpacked, packedLength, topClear}
 use Rattle.packed.proofs.PackedLaws.{length-packed, length-unpacked, unpacked-packed, packed-top, packed-unpacked}
 use Rattle.signal.specs.declared.kind.SignalEncoding.{SignalEncoding}
 use Rattle.signal.specs.declared.kind.SignalEncoding.the-variants.{BitVector, Real, Absent}
-use Rattle.signal.specs.Content.{Content, happened, symbols, bits, symbolsOf, realBits, ContentFits}
-use Rattle.stream.specs.Stream.{Change, change, ChangeFits, maxDelta, changeBytes, found, bitAfter, ownClass, wideAfter, vectorAfter, valueAfter, afterNumber, readChange}
+use Rattle.signal.specs.Content.{Content, happened, symbols, bits, ContentFits}
+use Rattle.stream.specs.Stream.{Change, change, ChangeFits, maxDelta, changeBytes, found, bitAfter, ownClass, wideAfter, valueAfter, afterNumber, readChange}
 
 -- a number is read, and its value from the bytes after it
 pub number-there : (k : SignalEncoding) (v : ℕ) (r : List ℕ) → v < 2 ^ 32 → readChange k (lebOf v ++ r) ≡ valueAfter k v r

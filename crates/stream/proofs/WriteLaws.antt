@@ -9,7 +9,6 @@ use lib.Seq.{sets, length-sets}
 use Rattle.lists.proofs.SetsLaws.{sets-append}
 use Rattle.numbers.specs.Leb128.{lebOf}
 use Rattle.numbers.specs.LittleEndian.{le}
-use Rattle.numbers.proofs.LittleEndianLaws.{length-le}
 use Rattle.value.specs.Class.{classNumber, classOfAll}
 use Rattle.value.specs.declared.states.States.{States}
 use Rattle.value.specs.declared.states.States.the-variants.{Two, Four, Nine}

@@ -2,6 +2,7 @@
 -- Assumes nothing.
 use Prim.Native.Nat.{ℕ, zero, suc, _+_, _-_, _*_, _≤_, _<_}
 use mathlib.Core.Path.{_≡_, refl, sym, ap, _∙_}
+use mathlib.Core.Bool.{true}
 use mathlib.Core.List.{List, [], _∷_, _++_, append-assoc}
 use mathlib.Core.Option.{Option, some, none}
 use native.Mathlib.Nat.{add-zero}
@@ -9,18 +10,22 @@ use native.Mathlib.Omega.{arith}
 use lib.ListN.{length, getD, take, drop, length-append, take-append-drop, List·getD-eq-default}
 use lib.Seq.{drop-cons, take-suc, take-all, take-at, drop-drop, getD-drop}
 use Rattle.lists.specs.Bytes.{Bytes}
+use Rattle.lists.specs.Choice.{isSome}
 use Rattle.signal.specs.declared.kind.SignalEncoding.{SignalEncoding}
 use Rattle.signal.specs.declared.kind.SignalEncoding.the-variants.{Absent}
 use Rattle.stream.specs.Entries.{Entry, streamBytes}
-use Rattle.image.specs.Block.{Part, Block, part, block, partBytes, dataOf, offsetsFrom, blockSize}
+use Rattle.image.specs.Block.{Part, Block, block, partBytes, dataOf, offsetsFrom, blockSize}
 use Rattle.image.specs.Head.{imageLimit}
 use Rattle.image.specs.Image.{Image, streamedPart, streamedParts}
+use Rattle.form.specs.Decide.{false-true}
+use Rattle.form.proofs.WholeLaws.{none-some}
 use Rattle.codec.specs.Valid.{BlocksFit}
 use Rattle.codec.specs.Parse.{parse}
 use Rattle.codec.proofs.WrittenOut.{count-streamed}
 use Rattle.codec.proofs.PlaceLaws.{offset-none}
 use Rattle.codec.proofs.Growth.{parts-count}
 use Rattle.loaded.specs.Opener.{kindAt, blockAt, partAt, streamIn, streamFrom, streamOf}
+use Rattle.loaded.specs.Loading.{topIn}
 use Rattle.walk.specs.Walk.{Opened, imageFrom, imageIn, blockPlace, partsIn, dataPlace, partPlace, BlockHere, PartHere}
 use Rattle.walk.proofs.StandLaws.{Stands, stands-front, stands-back, Number, stands-number, stands-nth}
 use Rattle.walk.proofs.HeadLaws.{means, head-in}
@@ -53,9 +58,6 @@ part-stands g d ps b h s =
     ap dataOf (sym (take-append-drop g ps)) ∙ data-append (take g ps) (drop g ps) ∙ ap (λ (l : List (Option (Part (List ℕ)))). front ++ dataOf l) (drop-cons ps g none h) in
     stands-front b _ (partBytes (getD ps g none)) (dataOf (drop (suc g) ps)) (stands-back b d (length front) front _ refl (rw e at s))
 
-none-is : {B : Type 0} {p : Part (List ℕ)} → none ≡ some p → B
-none-is e = let z : _≡_ {A = ℕ} 0 1 = cc in absurd (omega arith)
-
 -- an offset is at most the number of data bytes
 offset-most : (g a : ℕ) (ps : List (Option (Part (List ℕ)))) → getD (offsetsFrom a ps) g 0 ≤ a + length (dataOf ps)
 unfolding offsetsFrom dataOf
@@ -69,8 +71,8 @@ offset-most (suc g) a (some q ∷ ps) =
 offset-some : (g a : ℕ) (ps : List (Option (Part (List ℕ)))) (p : Part (List ℕ)) → getD ps g none ≡ some p
     → getD (offsetsFrom a ps) g 0 ≡ suc (a + length (dataOf (take g ps)))
 unfolding offsetsFrom dataOf
-offset-some g a [] p e = none-is e
-offset-some zero a (none ∷ ps) p e = none-is e
+offset-some g a [] p e = none-some e
+offset-some zero a (none ∷ ps) p e = none-some e
 offset-some zero a (some q ∷ ps) p e = omega arith
 offset-some (suc g) a (none ∷ ps) p e = offset-some g a ps p e
 offset-some (suc g) a (some q ∷ ps) p e =
@@ -153,36 +155,51 @@ streamed-at (k ∷ ks) [] (suc g) h = streamed-at ks [] g (omega arith)
 streamed-at (k ∷ ks) (p ∷ ps) zero h = refl
 streamed-at (k ∷ ks) (p ∷ ps) (suc g) h = streamed-at ks ps g (omega arith)
 
-no-part : (k : SignalEncoding) (p : Option (Part (List Entry))) (b : List ℕ) → p ≡ none → PartHere 0 0 0 k p b
-no-part k p b e = rw e (record { ordered = omega arith; inside = omega arith; stream = refl; class = refl })
+not-there : {B : Type 0} {p : Option (Part (List Entry))} → p ≡ none → isSome p ≡ true → B
+not-there e h = absurd (false-true (ap isSome (sym e) ∙ h))
+
+no-part : (n g : ℕ) (b : List ℕ) → partAt (blockAt (imageIn b) n) g ≡ none → PartHere 0 0 0 n g b
+no-part n g b e = record {
+  ordered = omega arith;
+  inside = omega arith;
+  stream = ap (streamIn (kindAt (imageIn b) g)) (sym e);
+  class = ap topIn (sym e);
+  begin = not-there e;
+  end = not-there e;
+}
 
 none-back : (k : SignalEncoding) (p : Option (Part (List Entry))) → streamedPart k p ≡ none → p ≡ none
 none-back k none e = refl
-none-back k (some q) e = none-is (sym e)
+none-back k (some q) e = none-some (sym e)
 
-stream-found : (b : List ℕ) (k : SignalEncoding) (p : Option (Part (List Entry))) (a to : ℕ) → (p ≡ none → ⊥) → Stands b a (partBytes (streamedPart k p))
-    → to ≡ a + length (partBytes (streamedPart k p)) → PartHere (a + 1) to (getD b a 0) k p b
-stream-found b k none a to f s e = absurd (f refl)
-stream-found b k (some q) a to f s e =
+stream-found : (b : List ℕ) (n g : ℕ) (p : Option (Part (List Entry))) (a to : ℕ) → partAt (blockAt (imageIn b) n) g ≡ p → (p ≡ none → ⊥)
+    → Stands b a (partBytes (streamedPart (kindAt (imageIn b) g) p)) → to ≡ a + length (partBytes (streamedPart (kindAt (imageIn b) g) p))
+    → a ≡ partPlace (imageIn b) n g → to ≡ partPlace (imageIn b) n (suc g) → PartHere (a + 1) to (getD b a 0) n g b
+stream-found b n g none a to i f s e u v = absurd (f refl)
+stream-found b n g (some q) a to i f s e u v =
+    let k = kindAt (imageIn b) g in
     let l : List ℕ = streamBytes k 0 (q .stream) in
     let d : drop (a + 1) b ≡ l ++ s .rest = sym (drop-drop 1 a b) ∙ ap (drop 1) (s .bytes) in
-    let n : to - (a + 1) ≡ length l = omega arith in
+    let m : to - (a + 1) ≡ length l = omega arith in
     let z : getD b a 0 ≡ getD (drop a b) 0 0 = ap (λ (i : ℕ). getD b i 0) (sym (add-zero a)) ∙ sym (getD-drop a b 0 0) in
     record {
       ordered = omega arith;
       inside = omega (arith, s .inside);
-      stream = rw (n, d) (take-at l (s .rest) (length l) refl);
-      class = z ∙ ap (λ (l : List ℕ). getD l 0 0) (s .bytes);
+      stream = rw (m, d) (take-at l (s .rest) (length l) refl) ∙ ap (streamIn k) (sym i);
+      class = z ∙ ap (λ (l : List ℕ). getD l 0 0) (s .bytes) ∙ ap topIn (sym i);
+      begin = λ t. omega arith;
+      end = λ t. v;
     }
 
-found-none : (x : Image) (n g : ℕ) (b : List ℕ) → g < length (x .kinds) → getD (partsIn x n) g none ≡ none → PartHere 0 0 0 (kindAt x g) (partAt (blockAt x n) g) b
-found-none x n g b h e =
-    no-part (kindAt x g) (partAt (blockAt x n) g) b (none-back (kindAt x g) (partAt (blockAt x n) g) (sym (streamed-at (x .kinds) (blockAt x n .parts) g h) ∙ e))
+found-none : (n g : ℕ) (b : List ℕ) → g < length (imageIn b .kinds) → getD (partsIn (imageIn b) n) g none ≡ none → PartHere 0 0 0 n g b
+found-none n g b h e =
+    let x = imageIn b in
+    no-part n g b (none-back (kindAt x g) (partAt (blockAt x n) g) (sym (streamed-at (x .kinds) (blockAt x n .parts) g h) ∙ e))
 
 -- else the part stands from its place to that of the next one
 found-some : (n at g offset : ℕ) (b : List ℕ) → Bytes b → Opened b → BlockHere n at b → g < length (imageIn b .kinds)
     → offset ≡ getD (offsetsFrom 0 (partsIn (imageIn b) n)) g 0 → (offset ≡ 0 → ⊥)
-    → PartHere (partPlace (imageIn b) n g + 1) (partPlace (imageIn b) n (suc g)) (getD b (partPlace (imageIn b) n g) 0) (kindAt (imageIn b) g) (partAt (blockAt (imageIn b) n) g) b
+    → PartHere (partPlace (imageIn b) n g + 1) (partPlace (imageIn b) n (suc g)) (getD b (partPlace (imageIn b) n g) 0) n g b
 unfolding partPlace
 found-some n at g offset b y o h k e f =
     let x = imageIn b in
@@ -193,18 +210,18 @@ found-some n at g offset b y o h k e f =
     let d : dataPlace x n ≡ at + blockSize (length (x .kinds)) (length (blockAt x n .times)) 0 = omega (arith, h .place) in
     let s = part-stands g (dataPlace x n) ps b (omega arith) (rw d (here n at b y o h .bytes)) in
     let any : p ≡ none → ⊥ = λ z. f (e ∙ offset-none g 0 ps (q ∙ ap (streamedPart (kindAt x g)) z)) in
-    stream-found b (kindAt x g) p _ _ any (rw q at s) (omega (arith, more-parts g ps (omega arith), ap (λ (p : Option (Part (List ℕ))). length (partBytes p)) q))
+    stream-found b n g p _ _ refl any (rw q at s) (omega (arith, more-parts g ps (omega arith), ap (λ (p : Option (Part (List ℕ))). length (partBytes p)) q)) refl refl
 
 pub found-at : (n at g offset start to : ℕ) (b : List ℕ) → Bytes b → Opened b → BlockHere n at b → g < length (imageIn b .kinds) → start ≡ dataPlace (imageIn b) n
     → offset ≡ getD (offsetsFrom 0 (partsIn (imageIn b) n)) g 0 → (offset ≡ 0 → ⊥) → to ≡ partPlace (imageIn b) n (suc g)
-    → PartHere (start + offset - 1 + 1) to (getD b (start + offset - 1) 0) (kindAt (imageIn b) g) (partAt (blockAt (imageIn b) n) g) b
+    → PartHere (start + offset - 1 + 1) to (getD b (start + offset - 1) 0) n g b
 found-at n at g offset start to b y o h k d e f t =
     rw (t, place-here (imageIn b) n g offset start d e f) (found-some n at g offset b y o h k e f)
 
 -- a kept 0 says that there is none
-pub found-zero : (x : Image) (n g offset : ℕ) (b : List ℕ) → g < length (x .kinds) → offset ≡ getD (offsetsFrom 0 (partsIn x n)) g 0 → offset ≡ 0
-    → PartHere 0 0 0 (kindAt x g) (partAt (blockAt x n) g) b
-found-zero x n g offset b h e z = found-none x n g b h (kept g (partsIn x n) .no-part (sym e ∙ z))
+pub found-zero : (n g offset : ℕ) (b : List ℕ) → g < length (imageIn b .kinds) → offset ≡ getD (offsetsFrom 0 (partsIn (imageIn b) n)) g 0 → offset ≡ 0
+    → PartHere 0 0 0 n g b
+found-zero n g offset b h e z = found-none n g b h (kept g (partsIn (imageIn b) n) .no-part (sym e ∙ z))
 
 parts-long : (limit : ℕ) (ks : List SignalEncoding) (end : Option ℕ) (tops : List ℕ) (bs : List (Block (List Entry))) (n : ℕ)
     → BlocksFit limit ks end tops bs → length (getD bs n (block [] []) .parts) ≤ length ks
@@ -214,11 +231,11 @@ parts-long limit ks end tops (y ∷ bs) (suc n) f = parts-long limit ks _ _ bs n
 
 -- a signal that does not exist has no part
 pub found-past : (n g : ℕ) (b : List ℕ) → Bytes b → Opened b → length (imageIn b .kinds) ≤ g
-    → PartHere 0 0 0 (kindAt (imageIn b) g) (partAt (blockAt (imageIn b) n) g) b
+    → PartHere 0 0 0 n g b
 found-past n g b y o h =
     let x = imageIn b in
     let l = parts-long (x .limit) (x .kinds) none [] (x .blocks) n (means b y o .valid .blocks) in
-    no-part (kindAt x g) (partAt (blockAt x n) g) b (List·getD-eq-default (blockAt x n .parts) none (omega arith))
+    no-part n g b (List·getD-eq-default (blockAt x n .parts) none (omega arith))
 
 -- ---- by block number
 

@@ -22,7 +22,7 @@ use Rattle.codec.proofs.ImageFits.{block-size}
 use Rattle.loaded.specs.Opener.{blockAt}
 use Rattle.loaded.specs.Loading.{joinTimes, tableFrom}
 use Rattle.loaded.specs.Reader.{refuse, counted, tableAfter, tableIn}
-use Rattle.walk.specs.Walk.{Opened, imageIn, joined}
+use Rattle.walk.specs.Walk.{Opened, imageIn, addedTimes}
 use Rattle.walk.proofs.HeadLaws.{means, head-in}
 
 -- ---- each block's first time but the first block's is in the table already
@@ -44,22 +44,22 @@ one-more t x l (u ∷ ts) h e = rw (eq-eqb u (lastOr x l) (h .1 ∙ sym e)) refl
 
 module _ (limit : ℕ) (ks : List SignalEncoding) where
   table-more : (t : ℕ) (tops : List ℕ) (bs : List (Block (List Entry))) (x : ℕ) (l : List ℕ) → BlocksFit limit ks (some t) tops bs → lastOr x l ≡ t
-      → tableFrom (x ∷ l) bs ≡ (x ∷ l) ++ joined 1 bs
-  unfolding tableFrom joined
+      → tableFrom (x ∷ l) bs ≡ (x ∷ l) ++ addedTimes 1 bs
+  unfolding tableFrom addedTimes
   table-more t tops [] x l f e = sym (append-nil (x ∷ l))
   table-more t tops (y ∷ bs) x l f e =
       ap (λ (k : List ℕ). tableFrom k bs) (one-more t x l (y .times) (f .0 .begins) e)
       ∙ table-more (lastOr 0 (y .times)) _ bs x (l ++ drop 1 (y .times)) (f .1) (last-more x l (y .times) (f .0 .begins .0))
-      ∙ append-assoc (x ∷ l) (drop 1 (y .times)) (joined 1 bs)
+      ∙ append-assoc (x ∷ l) (drop 1 (y .times)) (addedTimes 1 bs)
 
   first-times : (tops : List ℕ) (bs : List (Block (List Entry))) (ts : List ℕ) → 1 ≤ length ts → BlocksFit limit ks (some (lastOr 0 ts)) tops bs
-      → tableFrom ts bs ≡ ts ++ joined 1 bs
+      → tableFrom ts bs ≡ ts ++ addedTimes 1 bs
   unfolding lastOr
   first-times tops bs [] h f = absurd (omega arith)
   first-times tops bs (x ∷ l) h f = table-more (lastOr x l) tops bs x l f refl
 
-  table-is : (tops : List ℕ) (bs : List (Block (List Entry))) → BlocksFit limit ks none tops bs → tableFrom [] bs ≡ joined 0 bs
-  unfolding tableFrom joined
+  table-is : (tops : List ℕ) (bs : List (Block (List Entry))) → BlocksFit limit ks none tops bs → tableFrom [] bs ≡ addedTimes 0 bs
+  unfolding tableFrom addedTimes
   table-is tops [] f = refl
   table-is tops (y ∷ bs) f = first-times _ bs (y .times) (f .0 .begins) (f .1)
 
@@ -75,13 +75,13 @@ module _ (limit : ℕ) (ks : List SignalEncoding) where
   times-any end tops (y ∷ bs) (suc n) f h = times-any _ _ bs n (f .1) (omega arith)
 
 -- the table has no more times than the image bytes
-joined-small : (skip : ℕ) (ks : List SignalEncoding) (bs : List (Block (List Entry))) → length (joined skip bs) ≤ length (blocksBytes ks bs)
-unfolding joined blocksBytes
+joined-small : (skip : ℕ) (ks : List SignalEncoding) (bs : List (Block (List Entry))) → length (addedTimes skip bs) ≤ length (blocksBytes ks bs)
+unfolding addedTimes blocksBytes
 joined-small skip ks [] = omega arith
 joined-small skip ks (y ∷ bs) =
     omega (
       arith,
-      length-append (drop skip (y .times)) (joined 1 bs),
+      length-append (drop skip (y .times)) (addedTimes 1 bs),
       length-drop skip (y .times),
       length-append (blockBytes (streamed ks y)) (blocksBytes ks bs),
       block-size (streamed ks y),
@@ -90,10 +90,10 @@ joined-small skip ks (y ∷ bs) =
 
 -- ---- of an accepted image
 
-pub table-in : (b : List ℕ) → Bytes b → Opened b → tableFrom [] (imageIn b .blocks) ≡ joined 0 (imageIn b .blocks)
+pub table-in : (b : List ℕ) → Bytes b → Opened b → tableFrom [] (imageIn b .blocks) ≡ addedTimes 0 (imageIn b .blocks)
 table-in b y o = let x = imageIn b in table-is (x .limit) (x .kinds) [] (x .blocks) (means b y o .valid .blocks)
 
-table-small : (b : List ℕ) → Bytes b → Opened b → length (joined 0 (imageIn b .blocks)) ≤ imageLimit
+table-small : (b : List ℕ) → Bytes b → Opened b → length (addedTimes 0 (imageIn b .blocks)) ≤ imageLimit
 table-small b y o =
     let x = imageIn b in
     let h = head-in b y o in
@@ -106,35 +106,35 @@ any-time n b y o h = let x = imageIn b in times-any (x .limit) (x .kinds) none [
 
 -- the times of block number k, and those of the blocks after it
 joined-next : (skip k : ℕ) (bs : List (Block (List Entry))) → k < length bs
-    → joined skip (drop k bs) ≡ drop skip (getD bs k (block [] []) .times) ++ joined 1 (drop (suc k) bs)
-unfolding joined
+    → addedTimes skip (drop k bs) ≡ drop skip (getD bs k (block [] []) .times) ++ addedTimes 1 (drop (suc k) bs)
+unfolding addedTimes
 joined-next skip k bs h = rw (drop-cons bs k (block [] []) h) refl
 
 joined-count : (skip k : ℕ) (bs : List (Block (List Entry))) → k < length bs
-    → length (joined skip (drop k bs)) ≡ length (getD bs k (block [] []) .times) - skip + length (joined 1 (drop (suc k) bs))
+    → length (addedTimes skip (drop k bs)) ≡ length (getD bs k (block [] []) .times) - skip + length (addedTimes 1 (drop (suc k) bs))
 joined-count skip k bs h =
     let ts = getD bs k (block [] []) .times in
-    ap length (joined-next skip k bs h) ∙ omega (arith, length-append (drop skip ts) (joined 1 (drop (suc k) bs)), length-drop skip ts)
+    ap length (joined-next skip k bs h) ∙ omega (arith, length-append (drop skip ts) (addedTimes 1 (drop (suc k) bs)), length-drop skip ts)
 
-pub joined-end : (skip : ℕ) (bs : List (Block (List Entry))) → joined skip (drop (length bs) bs) ≡ []
-unfolding joined
-joined-end skip bs = ap (joined skip) (drop-length bs)
+pub joined-end : (skip : ℕ) (bs : List (Block (List Entry))) → addedTimes skip (drop (length bs) bs) ≡ []
+unfolding addedTimes
+joined-end skip bs = ap (addedTimes skip) (drop-length bs)
 
 pub joined-sets : (skip k p q : ℕ) (bs : List (Block (List Entry))) (out next : List ℕ) → k < length bs
     → q ≡ p + (length (getD bs k (block [] []) .times) - skip) → next ≡ sets out p (drop skip (getD bs k (block [] []) .times))
-    → sets next q (joined 1 (drop (suc k) bs)) ≡ sets out p (joined skip (drop k bs))
+    → sets next q (addedTimes 1 (drop (suc k) bs)) ≡ sets out p (addedTimes skip (drop k bs))
 joined-sets skip k p q bs out next h e f =
     let ts = getD bs k (block [] []) .times in
     let d : q ≡ p + length (drop skip ts) = e ∙ ap (λ (n : ℕ). p + n) (sym (length-drop skip ts)) in
-    rw (joined-next skip k bs h, d, f) (sym (sets-append (drop skip ts) (joined 1 (drop (suc k) bs)) out p))
+    rw (joined-next skip k bs h, d, f) (sym (sets-append (drop skip ts) (addedTimes 1 (drop (suc k) bs)) out p))
 
 -- what a turn at block number k needs
 pub record Turn (skip k : ℕ) (b : List ℕ) : Type 0 where
   pub any : 1 ≤ length (blockAt (imageIn b) k .times)
-  pub small : length (joined 0 (imageIn b .blocks)) ≤ imageLimit
+  pub small : length (addedTimes 0 (imageIn b .blocks)) ≤ imageLimit
   pub count :
-      length (joined skip (drop k (imageIn b .blocks)))
-      ≡ length (blockAt (imageIn b) k .times) - skip + length (joined 1 (drop (suc k) (imageIn b .blocks)))
+      length (addedTimes skip (drop k (imageIn b .blocks)))
+      ≡ length (blockAt (imageIn b) k .times) - skip + length (addedTimes 1 (drop (suc k) (imageIn b .blocks)))
 
 pub turn-at : (skip k : ℕ) (b : List ℕ) → Bytes b → Opened b → k < length (imageIn b .blocks) → Turn skip k b
 turn-at skip k b y o h = record { any = any-time k b y o h; small = table-small b y o; count = joined-count skip k (imageIn b .blocks) h }

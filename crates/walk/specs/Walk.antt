@@ -1,19 +1,19 @@
 -- The image that accepted bytes are, where its blocks and their parts begin, and what its blocks add to the combined table.
 -- Laws: proofs/HeadLaws, proofs/BlockLaws, proofs/PartLaws, proofs/TableLaws; for entry points, proofs/OpenLaws.
 -- Assumes nothing.
-use Prim.Native.Nat.{ℕ, _+_, _-_, _≤_, _<_}
+use Prim.Native.Nat.{ℕ, suc, _+_, _-_, _≤_, _<_}
 use mathlib.Core.Path.{_≡_}
-use mathlib.Core.Bool.{true}
+use mathlib.Core.Bool.{Bool, true}
 use mathlib.Core.List.{List, [], _∷_, _++_}
 use mathlib.Core.Option.{Option, some, none}
 use lib.ListN.{length, take, drop}
-use Rattle.signal.specs.declared.kind.SignalEncoding.{SignalEncoding}
+use Rattle.lists.specs.Choice.{isSome}
 use Rattle.stream.specs.Entries.{Entry}
 use Rattle.image.specs.Block.{Part, Block, dataOf, blockSize}
 use Rattle.image.specs.Head.{headSize}
 use Rattle.image.specs.Image.{Image, image, streamedParts, blocksBytes}
 use Rattle.codec.specs.Parse.{parse}
-use Rattle.loaded.specs.Opener.{openOf, blockAt, streamIn}
+use Rattle.loaded.specs.Opener.{openOf, kindAt, blockAt, partAt, streamIn}
 use Rattle.loaded.specs.Loading.{topIn}
 
 -- the opener accepts
@@ -61,18 +61,25 @@ TimeHere at i b = (n : ℕ) × BlockHere n at b × (i < length (blockAt (imageIn
 abbrev pub SignalHere : (at signal : ℕ) → List ℕ → Type 0
 SignalHere at g b = SomeBlock at b × (g < length (imageIn b .kinds))
 
--- the bytes from one place to another are the stream of a part of a signal of kind k, and `top` is the part's top class
-pub record PartHere (from to top : ℕ) (k : SignalEncoding) (p : Option (Part (List Entry))) (b : List ℕ) : Type 0 where
+-- whether signal g has changes in block number n
+abbrev pub partThere : Image → (n g : ℕ) → Bool
+partThere x n g = isSome (partAt (blockAt x n) g)
+
+-- the bytes from one place to another are the stream of signal g in block number n, and `top` is its top class; they begin after the
+-- part's class byte and end where the next part begins, if there are changes
+pub record PartHere (from to top n g : ℕ) (b : List ℕ) : Type 0 where
   pub ordered : from ≤ to
   pub inside : to ≤ length b
-  pub stream : take (to - from) (drop from b) ≡ streamIn k p
-  pub class : top ≡ topIn p
+  pub stream : take (to - from) (drop from b) ≡ streamIn (kindAt (imageIn b) g) (partAt (blockAt (imageIn b) n) g)
+  pub class : top ≡ topIn (partAt (blockAt (imageIn b) n) g)
+  pub begin : partThere (imageIn b) n g ≡ true → from ≡ suc (partPlace (imageIn b) n g)
+  pub end : partThere (imageIn b) n g ≡ true → to ≡ partPlace (imageIn b) n (suc g)
 
 -- the times that blocks add to the combined table: those of the first one without its first `skip`, those of each later one without the
 -- first
-unfoldable pub joined : (skip : ℕ) → List (Block (List Entry)) → List ℕ
-joined skip [] = []
-joined skip (y ∷ ys) = drop skip (y .times) ++ joined 1 ys
+unfoldable pub addedTimes : (skip : ℕ) → List (Block (List Entry)) → List ℕ
+addedTimes skip [] = []
+addedTimes skip (y ∷ ys) = drop skip (y .times) ++ addedTimes 1 ys
 
 -- some block begins there, and its times without the first `skip` fit into a list of `room` numbers from a place on
 abbrev pub TimesFit : (at skip from room : ℕ) → List ℕ → Type 0

@@ -10,7 +10,7 @@ ghost use mathlib.Core.Path.{_≡_};
 ghost use Prim.Native.Nat.{ℕ, suc, _<_};
 ghost use lib.ListN.{getD};
 ghost use Rattle.image.specs.Block.{offsetsFrom};
-ghost use Rattle.loaded.specs.Opener.{kindAt, blockAt, partAt, streamOf};
+ghost use Rattle.loaded.specs.Opener.{streamOf};
 ghost use Rattle.walk.specs.Walk.{Opened, imageIn, partsIn, dataPlace, partPlace, BlockHere, SomeBlock, SignalHere, PartHere};
 
 // Where a stream begins and ends, and the top class that its block gives it. A signal without changes has no bytes, and class 0.
@@ -59,7 +59,7 @@ fn part_end(image: &[u8], at: usize, signal: u32) -> usize
 // A signal's stream in the block that begins at a place.
 pub fn part_in(image: &[u8], at: usize, signal: u32) -> StreamPart
     requires { ⌜ Opened (now image) × SomeBlock at (now image) ⌝ }
-    ensures { λ r. ⌜ ((n : ℕ) → BlockHere n at (now (image .entry)) → PartHere (r .from) (r .to) (r .top) (kindAt (imageIn (now (image .entry))) signal) (partAt (blockAt (imageIn (now (image .entry))) n) signal) (now (image .entry))) ⌝ }
+    ensures { λ r. ⌜ ((n : ℕ) → BlockHere n at (now (image .entry)) → PartHere (r .from) (r .to) (r .top) n signal (now (image .entry))) ⌝ }
 {
     if signal_count(image) <= signal {
         return StreamPart {

@@ -1,8 +1,8 @@
 -- 4 by the kind, 9 by the width, then by the change that the walk found.
 use mathlib.Core.Path.{subst}
 use native.Mathlib.Omega.{arith}
-use Rattle.cursor.specs.declared.point.KeptChange.{KeptChange}
-use Rattle.cursor.specs.Point.{ChangeReads}
+use Rattle.entry.specs.declared.kept.KeptChange.{KeptChange}
+use Rattle.entry.specs.Kept.{KeptReads}
 use Rattle.cursor.proofs.CursorLaws.{cursor-unknown, cursor-short, cursor-nothing, cursor-found}
 use borrow.Author.Needs.{needs}
 use Rattle.cursor.proofs.cursor_in.Statement.{statement}
@@ -42,7 +42,7 @@ enum-known-found c = search needs
 value-at-requires : tie.Need-value-at-requires
 value-at-requires c κs =
     let a = c .before .before .before .before .before .before .before .before .before .before .before .before .args in (
-      subst (λ (l : KeptChange). ChangeReads (c .before .before .before .before .before .before .before .before .before .kind-at .result) (a .image .now) l) (c .before .before .found .given .1) (c .before .before .before .before .point-at .ensures .0 .1),
+      subst (λ (l : KeptChange). KeptReads (c .before .before .before .before .before .before .before .before .before .kind-at .result) (a .image .now) l) (c .before .before .found .given .1) (c .before .before .before .before .point-at .ensures .0 .1),
       omega (arith, c .before .before .before .before .before .before .width .ensures, c .before .before .before .before .before .if2 .left),
     )
 

@@ -1,4 +1,6 @@
 -- A symbol is at most 8.
+use mathlib.Core.Path.{ap}
+use Rattle.entry.specs.Answer.{shown}
 use Rattle.entry.proofs.AnswerLaws.{bit-over, bit-shown}
 use borrow.Author.Needs.{needs}
 use Rattle.entry.proofs.answer.bit_value.Statement.{statement}
@@ -16,8 +18,8 @@ slice-write-out c = search needs
 from-bit-requires : tie.Need-from-bit-requires
 from-bit-requires c κs = search needs
 
-symbols-value-requires : tie.Need-symbols-value-requires
-symbols-value-requires c κs = search needs
+symbols-entry-requires : tie.Need-symbols-entry-requires
+symbols-entry-requires c κs = search needs
 
 same-length : tie.Need-same-length
 same-length c = search needs
@@ -26,7 +28,7 @@ returns-2 : tie.Need-returns-2
 returns-2 c =
     let p = c .before .before .before .before in
     let a = p .args in
-    bit-shown (a .symbol) (a .out .now) _ _ (c .before .before .if1 .left) (c .before .from-bit .ensures) (c .symbols-value .ensures)
+    bit-shown (a .symbol) (a .out .now) _ _ (c .before .before .if1 .left) (c .before .from-bit .ensures) (ap shown (c .symbols-entry .ensures .0))
 
 pub bit-value-spec : {M : Type 1} → statement M
 bit-value-spec =
@@ -35,6 +37,6 @@ bit-value-spec =
     returns
     slice-write-out
     from-bit-requires
-    symbols-value-requires
+    symbols-entry-requires
     same-length
     returns-2)

@@ -1,6 +1,8 @@
 -- By the class of the symbols, where each is at most 8.
+use mathlib.Core.Path.{ap}
 use Rattle.value.specs.Class.{classNumber}
 use Rattle.packed.specs.Packed.{unpacked}
+use Rattle.entry.specs.Answer.{shown}
 use Rattle.entry.proofs.AnswerLaws.{symbols-none, symbols-some}
 use borrow.Author.Needs.{needs}
 use Rattle.entry.proofs.answer.packed_value.Statement.{statement}
@@ -15,8 +17,8 @@ enum-known-least c = search needs
 unpack-requires : tie.Need-unpack-requires
 unpack-requires c κs = search needs
 
-symbols-value-requires : tie.Need-symbols-value-requires
-symbols-value-requires c κs = search needs
+symbols-entry-requires : tie.Need-symbols-entry-requires
+symbols-entry-requires c κs = search needs
 
 enum-told : tie.Need-enum-told
 enum-told c = search needs
@@ -28,7 +30,7 @@ returns : tie.Need-returns
 returns c =
     let p = c .before .before .before .before .before .before .before .before .before .before .before in
     let a = p .args in
-    symbols-some (unpacked (a .width) (classNumber (a .states)) (a .part .now)) (a .out .now) _ _ _ _ (c .before .before .before .before .before .before .before .before .find-min-states .ensures) (c .before .before .before .before .before .before .least .given .1) (c .before .before .before .unpack .ensures) (c .symbols-value .ensures)
+    symbols-some (unpacked (a .width) (classNumber (a .states)) (a .part .now)) (a .out .now) _ _ _ _ (c .before .before .before .before .before .before .before .before .find-min-states .ensures) (c .before .before .before .before .before .before .least .given .1) (c .before .before .before .unpack .ensures) (ap shown (c .symbols-entry .ensures .0))
 
 returns-2 : tie.Need-returns-2
 returns-2 c =
@@ -43,7 +45,7 @@ packed-value-spec =
     find-min-states-requires
     enum-known-least
     unpack-requires
-    symbols-value-requires
+    symbols-entry-requires
     enum-told
     same-length
     returns

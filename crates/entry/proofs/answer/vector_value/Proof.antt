@@ -1,20 +1,21 @@
 -- By the width.
 use native.Mathlib.Omega.{arith}
-use mathlib.Core.Path.{_∙_}
+use mathlib.Core.Path.{ap, _∙_}
 use Rattle.value.specs.Class.{classNumber}
+use Rattle.entry.specs.Answer.{shown}
 use Rattle.entry.proofs.AnswerLaws.{event-shown, bit-held, bit-length, wide-length}
 use borrow.Author.Needs.{needs}
 use Rattle.entry.proofs.answer.vector_value.Statement.{statement}
 use Rattle.entry.proofs.answer.vector_value.Tie as tie
 
-event-value-requires : tie.Need-event-value-requires
-event-value-requires c κs = search needs
+event-entry-requires : tie.Need-event-entry-requires
+event-entry-requires c κs = search needs
 
 returns : tie.Need-returns
 returns c =
     let p = c .before .before .before .before in
     let a = p .args in
-    event-shown (a .width) (classNumber (a .class)) (a .bytes .now) (a .out .now) _ (c .before .if1 .taken) (c .event-value .ensures)
+    event-shown (a .width) (classNumber (a .class)) (a .bytes .now) (a .out .now) _ (c .before .if1 .taken) (ap shown (c .event-entry .ensures .0))
 
 shared-slice-read-bit-value : tie.Need-shared-slice-read-bit-value
 shared-slice-read-bit-value c =
@@ -50,7 +51,7 @@ pub vector-value-spec : {M : Type 1} → statement M
 vector-value-spec =
     tie.close
     (tie.spec
-    event-value-requires
+    event-entry-requires
     returns
     shared-slice-read-bit-value
     bit-value-requires

@@ -21,14 +21,14 @@ abbrev μ-loop : tie.MeasureT-loop
 μ-loop image signal class write index₀ bytes₀ blocks at₀ number₀ times₀ state₀ index bytes at number times state = blocks - number
 
 -- there is another block
-below : (t : tie.In-loop Inv-loop μ-loop) → t .before .loop .number < length (imageIn (t .before .before .before .before .before .before .before .args .image .now) .blocks)
-below t = omega (arith, t .loop-test .taken, t .before .before .before .block-count .ensures)
+below : (t : tie.In-loop Inv-loop μ-loop) → t .before .loop .number < length (imageIn (t .before .before .before .before .before .before .before .before .args .image .now) .blocks)
+below t = omega (arith, t .loop-test .taken, t .before .before .before .before .block-count .ensures)
 
 -- it begins there
-found : (t : tie.In-loop Inv-loop μ-loop) → BlockHere (t .before .loop .number) (t .before .loop .at) (t .before .before .before .before .before .before .before .args .image .now)
+found : (t : tie.In-loop Inv-loop μ-loop) → BlockHere (t .before .loop .number) (t .before .loop .at) (t .before .before .before .before .before .before .before .before .args .image .now)
 found t =
     let l = t .before .loop in
-    let f = t .before .before in
+    let f = t .before .before .before in
     let a = f .before .before .before .before .before .args in
     block-here (a .image .now) (a .signal) (classNumber (a .class)) (a .write) (a .index .now) (a .bytes .now) (l .number) (l .at) (l .times) (l .state) (l .index) (l .bytes)
     (λ j. f .before .before .before .before .shared-slice-known .given j .fits) (f .before .before .before .before .before .pre .0) (l .inv) (below t)
@@ -39,18 +39,21 @@ block-count-requires c κs = search needs
 first-block-requires : tie.Need-first-block-requires Inv-loop μ-loop
 first-block-requires c κs = search needs
 
+nothing-kept-requires : tie.Need-nothing-kept-requires Inv-loop μ-loop
+nothing-kept-requires c κs = search needs
+
 loop-holds : tie.Need-loop-holds Inv-loop μ-loop
 loop-holds c =
-    let f = c in
+    let f = c .before in
     let a = f .before .before .before .before .before .args in
-    passing-first (a .image .now) (a .signal) (classNumber (a .class)) (a .write) (a .index .now) (a .bytes .now) (f .first-block .result)
-    (λ j. f .before .before .before .before .shared-slice-known .given j .fits) (f .before .before .before .before .before .pre .0) (f .first-block .ensures)
+    passing-first (a .image .now) (a .signal) (classNumber (a .class)) (a .write) (a .index .now) (a .bytes .now) (f .first-block .result) (c .nothing-kept .result)
+    (λ j. f .before .before .before .before .shared-slice-known .given j .fits) (f .before .before .before .before .before .pre .0) (f .first-block .ensures) (c .nothing-kept .ensures)
 
 load-block-requires : tie.Need-load-block-requires Inv-loop μ-loop
 load-block-requires c κs =
     let t = c .before .before in
     let l = t .before .loop in
-    let f = t .before .before in
+    let f = t .before .before .before in
     let a = f .before .before .before .before .before .args in (
       (
         f .before .before .before .before .before .pre .0,
@@ -68,25 +71,25 @@ load-block-requires c κs =
       ),
     )
 
-first-index-requires : tie.Need-first-index-requires Inv-loop μ-loop
-first-index-requires c κs = c .before .before .before .before .before .before .before .before .loop .inv .many
+table-base-requires : tie.Need-table-base-requires Inv-loop μ-loop
+table-base-requires c κs = c .before .before .before .before .before .before .before .before .loop .inv .many
 
 times-in-requires : tie.Need-times-in-requires Inv-loop μ-loop
-times-in-requires c κs = (c .before .before .before .before .before .before .before .before .before .before .before .before .before .before .before .pre .0, (c .before .before .before .before .before .before .before .before .before .loop .number, found (c .before .before .before .before .before .before .before .before)))
+times-in-requires c κs = (c .before .before .before .before .before .before .before .before .before .before .before .before .before .before .before .before .pre .0, (c .before .before .before .before .before .before .before .before .before .loop .number, found (c .before .before .before .before .before .before .before .before)))
 
 add-times : tie.Need-add-times Inv-loop μ-loop
 add-times c =
     let t = c .before .before .before .before .before .before .before .before .before in
     let l = t .before .loop in
-    let f = t .before .before in
+    let f = t .before .before .before in
     let a = f .before .before .before .before .before .args in
     let n = next-times (a .image .now) (a .signal) (classNumber (a .class)) (a .write) (a .index .now) (a .bytes .now) (l .number) (l .at) (l .times) (l .state) (l .index) (l .bytes)
     (λ j. f .before .before .before .before .shared-slice-known .given j .fits) (f .before .before .before .before .before .pre .0) (l .inv) (below t) in
     let m = c .times-in .ensures (l .number) (found t) in
-    omega (arith, c .before .first-index .ensures, base-small (l .number) (l .times), l .inv .early, n .0, n .1)
+    omega (arith, c .before .table-base .ensures, base-small (l .number) (l .times), l .inv .early, n .0, n .1)
 
 next-block-requires : tie.Need-next-block-requires Inv-loop μ-loop
-next-block-requires c κs = (c .before .before .before .before .before .before .before .before .before .before .before .before .before .before .before .before .pre .0, (c .before .before .before .before .before .before .before .before .before .before .loop .number, found (c .before .before .before .before .before .before .before .before .before)))
+next-block-requires c κs = (c .before .before .before .before .before .before .before .before .before .before .before .before .before .before .before .before .before .pre .0, (c .before .before .before .before .before .before .before .before .before .before .loop .number, found (c .before .before .before .before .before .before .before .before .before)))
 
 add-number : tie.Need-add-number Inv-loop μ-loop
 add-number c = omega (arith, c .before .before .before .before .before .before .before .before .before .before .loop-test .taken)
@@ -98,13 +101,13 @@ loop-again : tie.Need-loop-again Inv-loop μ-loop
 loop-again c =
     let t = c .before .before .before .before .before .before .before .before .before .before in
     let l = t .before .loop in
-    let f = t .before .before in
+    let f = t .before .before .before in
     let a = f .before .before .before .before .before .args in
     let e = c .before .before .before .before .before .before .before .load-block .ensures in
     let h = found t in
     let m = c .before .times-in .ensures (l .number) h in
-    let sum : c .before .before .first-index .result + c .before .times-in .result ≡ baseOf (l .number) (l .times) + length (blockAt (imageIn (a .image .now)) (l .number) .times) =
-    ap (λ (n : ℕ). n + c .before .times-in .result) (c .before .before .first-index .ensures) ∙ ap (λ (n : ℕ). baseOf (l .number) (l .times) + n) m in
+    let sum : c .before .before .table-base .result + c .before .times-in .result ≡ baseOf (l .number) (l .times) + length (blockAt (imageIn (a .image .now)) (l .number) .times) =
+    ap (λ (n : ℕ). n + c .before .times-in .result) (c .before .before .table-base .ensures) ∙ ap (λ (n : ℕ). baseOf (l .number) (l .times) + n) m in
     passing-on (a .image .now) (a .signal) (classNumber (a .class)) (a .write) (a .index .now) (a .bytes .now) (l .number) (l .at) (l .times) (l .state) (l .index) (l .bytes)
     (λ j. f .before .before .before .before .shared-slice-known .given j .fits) (f .before .before .before .before .before .pre .0) (l .inv) (below t)
     _ _ (c .before .before .before .before .before .before .before .load-block .result) _ _ sum (c .next-block .ensures (l .number) h) (e .0) (e .1) (e .2) (e .3)
@@ -112,19 +115,19 @@ loop-again c =
 same-length : tie.Need-same-length Inv-loop μ-loop
 same-length c =
     let l = c .before .loop in
-    let a = c .before .before .before .before .before .before .before .args in
+    let a = c .before .before .before .before .before .before .before .before .args in
     passing-sizes (a .image .now) (a .signal) (classNumber (a .class)) (a .write) (a .index .now) (a .bytes .now) (l .number) (l .at) (l .times) (l .state) (l .index) (l .bytes) (l .inv) .0
 
 same-length-2 : tie.Need-same-length-2 Inv-loop μ-loop
 same-length-2 c =
     let l = c .before .loop in
-    let a = c .before .before .before .before .before .before .before .args in
+    let a = c .before .before .before .before .before .before .before .before .args in
     passing-sizes (a .image .now) (a .signal) (classNumber (a .class)) (a .write) (a .index .now) (a .bytes .now) (l .number) (l .at) (l .times) (l .state) (l .index) (l .bytes) (l .inv) .1
 
 returns : tie.Need-returns Inv-loop μ-loop
 returns c =
     let l = c .before .loop in
-    let f = c .before .before in
+    let f = c .before .before .before in
     let a = f .before .before .before .before .before .args in
     let q = f .before .block-count .ensures in
     passed (a .image .now) (a .signal) (classNumber (a .class)) (a .write) (a .index .now) (a .bytes .now) (l .number) (l .at) (l .times) (l .state) (l .index) (l .bytes)
@@ -138,9 +141,10 @@ load-blocks-spec =
     μ-loop
     block-count-requires
     first-block-requires
+    nothing-kept-requires
     loop-holds
     load-block-requires
-    first-index-requires
+    table-base-requires
     times-in-requires
     add-times
     next-block-requires

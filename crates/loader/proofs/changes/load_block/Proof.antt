@@ -56,8 +56,8 @@ kind-at-requires c κs = search needs
 part-in-requires : tie.Need-part-in-requires Inv-loop μ-loop
 part-in-requires c κs = search needs
 
-first-index-requires : tie.Need-first-index-requires Inv-loop μ-loop
-first-index-requires c κs = search needs
+table-base-requires : tie.Need-table-base-requires Inv-loop μ-loop
+table-base-requires c κs = search needs
 
 raised-requires : tie.Need-raised-requires Inv-loop μ-loop
 raised-requires c κs = search needs
@@ -69,7 +69,7 @@ loop-holds c =
       refl,
       going-first (r .before .before .before .kind-at .result) (a .image .now) (a .number) (a .at) (a .signal) (classNumber (a .class)) (a .write) (a .times) (r .before .before .part-in .result .from) (r .before .before .part-in .result .to)
           (a .state) (r .raised .result) (a .index .now) (a .bytes .now) (r .before .before .before .kind-at .ensures) (known r) (held r)
-          (r .before .first-index .result) (r .before .before .before .before .before .before .before .pre .0 .2) (r .before .first-index .ensures),
+          (r .before .table-base .result) (r .before .before .before .before .before .before .before .pre .0 .2) (r .before .table-base .ensures),
     )
 
 read-change-requires : tie.Need-read-change-requires Inv-loop μ-loop
@@ -170,7 +170,7 @@ load-block-spec =
     μ-loop
     kind-at-requires
     part-in-requires
-    first-index-requires
+    table-base-requires
     raised-requires
     loop-holds
     read-change-requires

@@ -6,9 +6,10 @@ use native.Mathlib.Omega.{arith}
 use lib.ListN.{length}
 use Rattle.value.specs.Class.{classNumber}
 use Rattle.entry.specs.Read.{contentRead}
-use Rattle.loader.specs.Output.{LastReads, outputAs}
-use Rattle.loader.specs.declared.changes.LastKept.{LastKept}
-use Rattle.loader.specs.declared.changes.LastKept.the-variants as last
+use Rattle.entry.specs.Kept.{KeptReads}
+use Rattle.loader.specs.Output.{outputAs}
+use Rattle.entry.specs.declared.kept.KeptChange.{KeptChange}
+use Rattle.entry.specs.declared.kept.KeptChange.the-variants as last
 use Rattle.loader.proofs.OutputLaws.{taken-same, taken-counts, taken-writes, taken-room, output-of}
 use borrow.Author.Needs.{needs}
 use Rattle.loader.proofs.changes.take_change.Statement.{statement}
@@ -51,7 +52,7 @@ returns-2 c =
     let b : List ℕ = a .image .now in
     let w = q .write-entry .ensures in
     let e = c .one-more .ensures in (
-      subst (λ (l : LastKept). LastReads (a .kind) b l) (sym (e .3)) (p .pre .0 .1),
+      subst (λ (l : KeptChange). KeptReads (a .kind) b l) (sym (e .3)) (p .pre .0 .1),
       e .2,
       omega (arith, e .0),
       output-of (a .kind) b (c .one-more .result) (a .state .count + 1) (q .write-entry .result) (last.Change (a .value) (a .next)) _ _ (e .0) (e .1) (e .3)
@@ -68,7 +69,7 @@ returns-3 c =
     let a = p .args in
     let b : List ℕ = a .image .now in
     let e = c .one-more2 .ensures in (
-      subst (λ (l : LastKept). LastReads (a .kind) b l) (sym (e .3)) (p .pre .0 .1),
+      subst (λ (l : KeptChange). KeptReads (a .kind) b l) (sym (e .3)) (p .pre .0 .1),
       e .2,
       omega (arith, e .0),
       output-of (a .kind) b (c .one-more2 .result) (a .state .count + 1) (a .state .used) (last.Change (a .value) (a .next)) _ _ (e .0) (e .1) (e .3)

@@ -4,7 +4,6 @@
 use Prim.Native.Nat.{ℕ, _+_, _-_, _<_}
 use native.Mathlib.Omega.{arith}
 use lib.ListN.{length, getD}
-use Rattle.loaded.specs.Opener.{kindAt, blockAt, partAt}
 use Rattle.walk.specs.Walk.{imageIn, BlockHere, PartHere}
 use Rattle.walk.proofs.PartLaws.{start-most, found-at, found-zero, found-past}
 use borrow.Author.Needs.{needs}
@@ -17,7 +16,7 @@ below c = omega (arith, c .if1 .left, c .before .signal-count .ensures)
 found : (c : tie.After-part-end) (n : ℕ) → BlockHere n (c .before .before .before .before .before .before .before .before .before .args .at) (c .before .before .before .before .before .before .before .before .before .args .image .now)
     → PartHere (c .before .before .data-start .result + c .before .before .before .before .before .offset-at .result .0 - 1 + 1) (c .part-end .result)
     (getD (c .before .before .before .before .before .before .before .before .before .args .image .now) (c .before .before .data-start .result + c .before .before .before .before .before .offset-at .result .0 - 1) 0)
-    (kindAt (imageIn (c .before .before .before .before .before .before .before .before .before .args .image .now)) (c .before .before .before .before .before .before .before .before .before .args .signal)) (partAt (blockAt (imageIn (c .before .before .before .before .before .before .before .before .before .args .image .now)) n) (c .before .before .before .before .before .before .before .before .before .args .signal)) (c .before .before .before .before .before .before .before .before .before .args .image .now)
+    n (c .before .before .before .before .before .before .before .before .before .args .signal) (c .before .before .before .before .before .before .before .before .before .args .image .now)
 found c n h =
     let s = c .before .before .before .before .before .before .before .before .before in
     let o = c .before .before .before .before .before .offset-at in
@@ -40,7 +39,7 @@ returns-2 : tie.Need-returns-2
 returns-2 c n h =
     let s = c .before .before .before .before .before .before in
     let o = c .before .before .offset-at in
-    found-zero (imageIn (s .args .image .now)) n (s .args .signal) (o .result .0) (s .args .image .now) (below (c .before .before .before)) (o .ensures n h) (c .if2 .taken)
+    found-zero n (s .args .signal) (o .result .0) (s .args .image .now) (below (c .before .before .before)) (o .ensures n h) (c .if2 .taken)
 
 data-start-requires : tie.Need-data-start-requires
 data-start-requires c κs = search needs

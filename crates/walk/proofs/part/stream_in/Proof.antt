@@ -2,8 +2,7 @@
 -- Assumes nothing.
 use mathlib.Core.Path.{sym, _∙_}
 use native.Mathlib.Omega.{arith}
-use Rattle.loaded.specs.Opener.{kindAt, blockAt, partAt}
-use Rattle.walk.specs.Walk.{imageIn, BlockHere, PartHere}
+use Rattle.walk.specs.Walk.{BlockHere, PartHere}
 use Rattle.walk.proofs.PartLaws.{stream-of, stream-past}
 use borrow.Author.Needs.{needs}
 use Rattle.walk.proofs.part.stream_in.Statement.{statement}
@@ -14,7 +13,7 @@ standing : (c : tie.After-block-start) → BlockHere (c .before .before .before 
 standing c = record { exists = omega (arith, c .before .if1 .left, c .before .before .block-count .ensures); place = c .block-start .ensures }
 
 found : (c : tie.After-part-in) → PartHere (c .part-in .result .from) (c .part-in .result .to) (c .part-in .result .top)
-    (kindAt (imageIn (c .before .before .before .before .before .args .image .now)) (c .before .before .before .before .before .args .signal)) (partAt (blockAt (imageIn (c .before .before .before .before .before .args .image .now)) (c .before .before .before .before .before .args .block)) (c .before .before .before .before .before .args .signal)) (c .before .before .before .before .before .args .image .now)
+    (c .before .before .before .before .before .args .block) (c .before .before .before .before .before .args .signal) (c .before .before .before .before .before .args .image .now)
 found c = c .part-in .ensures (c .before .before .before .before .before .args .block) (standing (c .before))
 
 block-count-requires : tie.Need-block-count-requires

@@ -11,15 +11,15 @@ use borrow.Author.Needs.{needs}
 use lib.ListN.{length, drop}
 use lib.Seq.{sets}
 use Rattle.loaded.specs.Loading.{tableFrom}
-use Rattle.walk.specs.Walk.{imageIn, blockPlace, BlockHere, joined}
+use Rattle.walk.specs.Walk.{imageIn, blockPlace, BlockHere, addedTimes}
 use Rattle.walk.proofs.TableLaws.{Turn, turn-at, table-in, joined-end, joined-sets}
 use Rattle.walk.proofs.table.put_table.Statement.{statement}
 use Rattle.walk.proofs.table.put_table.Tie as tie
 
 abbrev Inv-loop : tie.InvT-loop
 Inv-loop image out₀ blocks at₀ skip₀ p₀ k₀ out at skip p k =
-    (k ≤ blocks) × (at ≡ blockPlace (imageIn image) k) × (skip ≤ 1) × (length out ≡ length out₀) × (p + length (joined skip (drop k (imageIn image .blocks))) ≡ length (joined 0 (imageIn image .blocks)))
-    × (sets out p (joined skip (drop k (imageIn image .blocks))) ≡ sets out₀ 0 (joined 0 (imageIn image .blocks)))
+    (k ≤ blocks) × (at ≡ blockPlace (imageIn image) k) × (skip ≤ 1) × (length out ≡ length out₀) × (p + length (addedTimes skip (drop k (imageIn image .blocks))) ≡ length (addedTimes 0 (imageIn image .blocks)))
+    × (sets out p (addedTimes skip (drop k (imageIn image .blocks))) ≡ sets out₀ 0 (addedTimes 0 (imageIn image .blocks)))
 
 abbrev μ-loop : tie.MeasureT-loop
 μ-loop image out₀ blocks at₀ skip₀ p₀ k₀ out at skip p k = blocks - k
@@ -31,7 +31,7 @@ standing c = record { exists = omega (arith, c .before .before .before .block-co
 turn : (c : tie.In-loop Inv-loop μ-loop) → Turn (c .before .loop .skip) (c .before .loop .k) (c .before .before .before .before .before .before .args .image .now)
 turn c = turn-at (c .before .loop .skip) (c .before .loop .k) (c .before .before .before .before .before .before .args .image .now) (λ j. c .before .before .before .before .before .shared-slice-known .given j .fits) (c .before .before .before .before .before .before .pre .0) (standing c .exists)
 
-table : (c : tie.In-loop Inv-loop μ-loop) → tableFrom [] (imageIn (c .before .before .before .before .before .before .args .image .now) .blocks) ≡ joined 0 (imageIn (c .before .before .before .before .before .before .args .image .now) .blocks)
+table : (c : tie.In-loop Inv-loop μ-loop) → tableFrom [] (imageIn (c .before .before .before .before .before .before .args .image .now) .blocks) ≡ addedTimes 0 (imageIn (c .before .before .before .before .before .before .args .image .now) .blocks)
 table c = table-in (c .before .before .before .before .before .before .args .image .now) (λ j. c .before .before .before .before .before .shared-slice-known .given j .fits) (c .before .before .before .before .before .before .pre .0)
 
 block-count-requires : tie.Need-block-count-requires Inv-loop μ-loop
@@ -87,7 +87,7 @@ returns c =
     let b = s .args .image .now in
     let bs = imageIn b .blocks in
     let e : l .k ≡ length bs = omega (arith, c .before .before .before .block-count .ensures) in
-    let z : joined (l .skip) (drop (l .k) bs) ≡ [] = ap (λ (k : ℕ). joined (l .skip) (drop k bs)) e ∙ joined-end (l .skip) bs in
+    let z : addedTimes (l .skip) (drop (l .k) bs) ≡ [] = ap (λ (k : ℕ). addedTimes (l .skip) (drop k bs)) e ∙ joined-end (l .skip) bs in
     let w = table-in b (λ j. c .before .before .before .before .before .shared-slice-known .given j .fits) (s .pre .0) in
     ap (sets (l .out) (l .p)) (sym z) ∙ l .inv .5 ∙ ap (sets (s .args .out .now) 0) (sym w)
 

@@ -8,14 +8,14 @@ use native.Mathlib.Numerals.{add-one}
 use native.Mathlib.Omega.{arith}
 use borrow.Author.Needs.{needs}
 use lib.ListN.{length, drop}
-use Rattle.walk.specs.Walk.{imageIn, blockPlace, BlockHere, joined}
+use Rattle.walk.specs.Walk.{imageIn, blockPlace, BlockHere, addedTimes}
 use Rattle.walk.proofs.TableLaws.{Turn, turn-at, table-in, joined-end}
 use Rattle.walk.proofs.table.table_length.Statement.{statement}
 use Rattle.walk.proofs.table.table_length.Tie as tie
 
 abbrev Inv-loop : tie.InvT-loop
 Inv-loop image blocks at₀ skip₀ n₀ k₀ at skip n k =
-    (k ≤ blocks) × (at ≡ blockPlace (imageIn image) k) × (skip ≤ 1) × (n + length (joined skip (drop k (imageIn image .blocks))) ≡ length (joined 0 (imageIn image .blocks)))
+    (k ≤ blocks) × (at ≡ blockPlace (imageIn image) k) × (skip ≤ 1) × (n + length (addedTimes skip (drop k (imageIn image .blocks))) ≡ length (addedTimes 0 (imageIn image .blocks)))
 
 abbrev μ-loop : tie.MeasureT-loop
 μ-loop image blocks at₀ skip₀ n₀ k₀ at skip n k = blocks - k
@@ -71,7 +71,7 @@ returns c =
     let s = c .before .before .before .before .before in
     let bs = imageIn (s .args .image .now) .blocks in
     let e : l .k ≡ length bs = omega (arith, c .before .before .before .block-count .ensures) in
-    let z : length (joined (l .skip) (drop (l .k) bs)) ≡ 0 = ap length (ap (λ (k : ℕ). joined (l .skip) (drop k bs)) e ∙ joined-end (l .skip) bs) in
+    let z : length (addedTimes (l .skip) (drop (l .k) bs)) ≡ 0 = ap length (ap (λ (k : ℕ). addedTimes (l .skip) (drop k bs)) e ∙ joined-end (l .skip) bs) in
     let w = table-in (s .args .image .now) (λ j. c .before .before .before .before .shared-slice-known .given j .fits) (s .pre) in
     omega (arith, ap length w)
 

@@ -1,0 +1,76 @@
+//! Safe calls of the wave memory: a recorder over lent buffers, and images.
+//!
+//! Every duty that include/wejumo.h names is met by the types: a Rust slice is not null, aligned and of its length, a `&mut` overlaps
+//! nothing, and nothing writes a borrowed slice. What the functions do is proved in crates/interface; nothing is decided here.
+//!
+//! The calls of one thread need the stack that docs/ARCHITECTURE.md names.
+
+mod ffi;
+mod image;
+mod recorder;
+
+pub use ffi::State;
+pub use image::{cursor, entry_length, entry_value, load, stream, sum, table, Cursor, Entry, Image, Loaded, Value};
+pub use recorder::{Answer, Recorder};
+
+/// The number of a refusal, 1 to 11.
+#[derive(Clone, Copy, Debug, PartialEq, Eq)]
+pub struct Refusal(pub u32);
+
+/// What a signal holds.
+#[derive(Clone, Copy, Debug, PartialEq, Eq)]
+pub enum Kind {
+    /// A vector of a width; an event has width 0.
+    Vector(u32),
+    Real,
+    Absent,
+}
+
+impl Kind {
+    /// Its number, as a record or a head stores it.
+    pub fn number(self) -> u32 {
+        match self {
+            Kind::Vector(width) => width,
+            Kind::Real => 0xFFFF_FFFE,
+            Kind::Absent => 0xFFFF_FFFF,
+        }
+    }
+
+    pub fn from_number(number: u32) -> Kind {
+        match number {
+            0xFFFF_FFFF => Kind::Absent,
+            0xFFFF_FFFE => Kind::Real,
+            width => Kind::Vector(width),
+        }
+    }
+
+    /// The record of a signal of this kind before a start.
+    pub fn record(self) -> u64 {
+        self.number().into()
+    }
+}
+
+/// How many states a symbol can have.
+#[derive(Clone, Copy, Debug, PartialEq, Eq, PartialOrd, Ord)]
+pub enum States {
+    Two,
+    Four,
+    Nine,
+}
+
+impl States {
+    fn from_number(number: u32) -> States {
+        match number {
+            0 => States::Two,
+            1 => States::Four,
+            _ => States::Nine,
+        }
+    }
+
+    fn number(self) -> u32 {
+        self as u32
+    }
+}
+
+#[cfg(test)]
+mod tests;

@@ -1,0 +1,88 @@
+// A raw value of a signal. Document 01, 'Symbol and value'.
+use crate::changes::value_change;
+use change::notation::Value;
+use plan::Outcome;
+use recording::Encoder;
+use recording::SignalRecord;
+use recording::SignalRef;
+use records::find_record;
+use value::states::States;
+ghost use mathlib.Core.Path.{_≡_};
+ghost use Rattle.value.specs.Class.{classNumber};
+ghost use Rattle.signal.specs.Kind.{widthOf};
+ghost use Rattle.signal.specs.Content.{raw};
+ghost use Rattle.recording.specs.Calls.{replyOf};
+ghost use Rattle.recording.specs.Memory.{memory, after};
+ghost use Rattle.recording.specs.Step.{changeOf};
+
+// The class that it claims, its signal's width, and the bytes that it borrows.
+pub struct RawValue<'b> {
+    pub claim: States,
+    pub width: u32,
+    pub bytes: &'b [u8],
+}
+
+// The notation of a raw value that claims a class.
+fn raw_notation(claim: States) -> Value
+    ensures { λ r. ⌜ r ≡ Value.Raw (classNumber claim) ⌝ }
+{
+    Value::Raw(claim.number() as u32)
+}
+
+// A raw value of a signal. The width is not looked at: it is the signal's, which its record has.
+pub fn raw_value_change<'r, 't, 'w, 'i, 'b>(
+    state: Encoder,
+    records: &'r mut [SignalRecord],
+    times: &'t [u64],
+    work: &'w mut [u8],
+    image: &'i [u8],
+    signal: SignalRef,
+    value: RawValue<'b>,
+) -> Outcome
+    ensures { λ r. ⌜ after (replyOf (r .answer)) (memory (r .state) (now (records .exit)) (now (times .entry)) (now (work .exit)) (now (image .entry)))
+        ≡ changeOf (memory state (now (records .entry)) (now (times .entry)) (now (work .entry)) (now (image .entry))) (signal .0) (raw (classNumber (value .entry .claim)) (now (value .entry .bytes))) ⌝ }
+{
+    let notation = raw_notation(value.claim);
+    value_change(
+        state,
+        records,
+        times,
+        work,
+        image,
+        signal,
+        notation,
+        value.bytes,
+    )
+}
+
+// The width of a signal, by its record.
+fn width_of(kept: SignalRecord) -> u32
+    ensures { λ r. ⌜ r ≡ widthOf (kept .kind) ⌝ }
+{
+    let kind = kept.kind;
+    kind.width()
+}
+
+// A raw value by the class that it claims and its bytes; its width is the signal's.
+pub fn raw_class_change<'r, 't, 'w, 'i, 'b>(
+    state: Encoder,
+    records: &'r mut [SignalRecord],
+    times: &'t [u64],
+    work: &'w mut [u8],
+    image: &'i [u8],
+    signal: SignalRef,
+    class: States,
+    bytes: &'b [u8],
+) -> Outcome
+    ensures { λ r. ⌜ after (replyOf (r .answer)) (memory (r .state) (now (records .exit)) (now (times .entry)) (now (work .exit)) (now (image .entry)))
+        ≡ changeOf (memory state (now (records .entry)) (now (times .entry)) (now (work .entry)) (now (image .entry))) (signal .0) (raw (classNumber class) (now (bytes .entry))) ⌝ }
+{
+    let kept = find_record(&*records, signal);
+    let width = width_of(kept);
+    let value = RawValue {
+        claim: class,
+        width,
+        bytes,
+    };
+    raw_value_change(state, records, times, work, image, signal, value)
+}

@@ -1,0 +1,33 @@
+// The start of a recording. Document 01, 'Recording' and 'Turned back' (1).
+use crate::records::start_records;
+use plan::Outcome;
+use plan::start::begin;
+use recording::Encoder;
+use storage::has_unknown_kind;
+ghost use mathlib.Core.Path.{_≡_};
+ghost use mathlib.Core.List.{[]};
+ghost use Rattle.recording.specs.Calls.{replyOf};
+ghost use Rattle.recording.specs.Memory.{memory, after};
+ghost use Rattle.recording.specs.Step.{startOf};
+ghost use Rattle.storage.specs.Storage.{recordsOf};
+
+// Starts a recording of S signals with at most B times a block: writes the image's head, and sets each record's index and class to 0.
+// The work buffer is not lent: [] stands for it, and any other gives the same (proofs/StartLaws, start-work).
+pub fn start(
+    state: Encoder,
+    limit: u32,
+    signals: u32,
+    records: &mut [u64],
+    times: &[u64],
+    image: &mut [u8],
+) -> Outcome
+    ensures { λ r. ⌜ after (replyOf (r .answer)) (memory (r .state) (recordsOf (now (records .exit))) (now (times .entry)) [] (now (image .exit)))
+        ≡ startOf limit signals (memory state (recordsOf (now (records .entry))) (now (times .entry)) [] (now (image .entry))) ⌝ }
+{
+    let unknown = has_unknown_kind(&*records);
+    let n = records.len();
+    let t = times.len();
+    let begun = begin(state, limit, signals, unknown, n, t, image);
+    start_records(records, begun.turns, image);
+    begun.outcome
+}

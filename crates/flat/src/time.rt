@@ -1,0 +1,29 @@
+// A time.
+use crate::records::cut_records;
+use plan::Outcome;
+use plan::carry::complete;
+use plan::time::prepare_time;
+use recording::Encoder;
+ghost use mathlib.Core.Path.{_≡_};
+ghost use Rattle.recording.specs.Calls.{replyOf};
+ghost use Rattle.recording.specs.Memory.{memory, after};
+ghost use Rattle.recording.specs.Step.{timeOf};
+ghost use Rattle.storage.specs.Storage.{recordsOf};
+
+// A time: a larger one than the last is taken, after a cut if the table is full; an equal one changes nothing; a smaller one starts a skip.
+pub fn time_change(
+    state: Encoder,
+    records: &mut [u64],
+    times: &mut [u64],
+    work: &[u8],
+    image: &mut [u8],
+    time: u64,
+) -> Outcome
+    ensures { λ r. ⌜ after (replyOf (r .answer)) (memory (r .state) (recordsOf (now (records .exit))) (now (times .exit)) (now (work .entry)) (now (image .exit)))
+        ≡ timeOf (memory state (recordsOf (now (records .entry))) (now (times .entry)) (now (work .entry)) (now (image .entry))) time ⌝ }
+{
+    let n = records.len();
+    let plan = prepare_time(state, n, &*times, work, image, time);
+    cut_records(records, plan.turns, plan.used, plan.start, image);
+    complete(plan, times, work, image)
+}

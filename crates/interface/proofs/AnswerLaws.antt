@@ -1,0 +1,24 @@
+-- From the inner call's equation to that of the call on numbers, for the calls that read.
+-- Assumes nothing.
+use Prim.Native.Nat.{ℕ}
+use mathlib.Core.Path.{_≡_, ap}
+use mathlib.Core.List.{List}
+use Rattle.loaded.specs.Reader.{LoadReply, LoadAfter, loadAfter, TableReply, TableAfter, tableAfter, CursorReply, CursorAfter, cursorAfter}
+use Rattle.entry.specs.Answer.{EntryReply, EntryAfter, entryAfter}
+use Rattle.interface.specs.declared.answers.LoadNumbers.{LoadNumbers}
+use Rattle.interface.specs.declared.answers.TableNumbers.{TableNumbers}
+use Rattle.interface.specs.declared.answers.CursorNumbers.{CursorNumbers}
+use Rattle.interface.specs.declared.answers.EntryNumbers.{EntryNumbers}
+use Rattle.interface.specs.Answered.{loadNumbersOf, loadTold, loadToldOf, tableNumbersOf, tableTold, tableToldOf, cursorNumbersOf, cursorTold, cursorToldOf, entryNumbersOf, entryTold, entryToldOf}
+
+pub load-told : (n : LoadNumbers) (r : LoadReply) (index bytes : List ℕ) (a : LoadAfter) → n ≡ loadNumbersOf r → loadAfter r index bytes ≡ a → loadTold n index bytes ≡ loadToldOf a
+load-told n r index bytes a h e = rw h (ap loadToldOf e)
+
+pub table-told : (n : TableNumbers) (r : TableReply) (times : List ℕ) (a : TableAfter) → n ≡ tableNumbersOf r → tableAfter r times ≡ a → tableTold n times ≡ tableToldOf a
+table-told n r times a h e = rw h (ap tableToldOf e)
+
+pub cursor-told : (n : CursorNumbers) (r : CursorReply) (symbols : List ℕ) (a : CursorAfter) → n ≡ cursorNumbersOf r → cursorAfter r symbols ≡ a → cursorTold n symbols ≡ cursorToldOf a
+cursor-told n r symbols a h e = rw h (ap cursorToldOf e)
+
+pub entry-told : (n : EntryNumbers) (r : EntryReply) (symbols : List ℕ) (a : EntryAfter) → n ≡ entryNumbersOf r → entryAfter r symbols ≡ a → entryTold n symbols ≡ entryToldOf a
+entry-told n r symbols a h e = rw h (ap entryToldOf e)

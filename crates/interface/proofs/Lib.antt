@@ -1,0 +1,4 @@
+pub mod StateLaws
+pub mod ToldLaws
+pub mod AnswerLaws
+pub mod SumLaws

@@ -1,0 +1,40 @@
+-- Past the blocks there is no part.
+-- Assumes nothing.
+use mathlib.Core.Path.{sym, _∙_}
+use native.Mathlib.Omega.{arith}
+use Rattle.walk.specs.Walk.{BlockHere, PartHere}
+use Rattle.walk.proofs.PartLaws.{stream-of, stream-past}
+use borrow.Author.Needs.{needs}
+use Rattle.interface.proofs.opened.wejumo_opened_stream.Statement.{statement}
+use Rattle.interface.proofs.opened.wejumo_opened_stream.Tie as tie
+
+-- the block begins at the place
+standing : (c : tie.After-block-start) → BlockHere (c .before .before .before .before .args .block) (c .block-start .result) (c .before .before .before .before .args .image .now)
+standing c = record { exists = omega (arith, c .before .if1 .left, c .before .before .block-count .ensures); place = c .block-start .ensures }
+
+found : (c : tie.After-part-in) → PartHere (c .part-in .result .from) (c .part-in .result .to) (c .part-in .result .top)
+    (c .before .before .before .before .before .args .block) (c .before .before .before .before .before .args .signal) (c .before .before .before .before .before .args .image .now)
+found c = c .part-in .ensures (c .before .before .before .before .before .args .block) (standing (c .before))
+
+block-count-requires : tie.Need-block-count-requires
+block-count-requires c κs = search needs
+
+returns : tie.Need-returns
+returns c = let a = c .before .before .before .args in (stream-past (a .image .now) (a .block) (a .signal) (omega (arith, c .if1 .taken, c .before .block-count .ensures)), omega arith)
+
+block-start-requires : tie.Need-block-start-requires
+block-start-requires c κs = search needs
+
+part-in-requires : tie.Need-part-in-requires
+part-in-requires c κs = (c .before .before .before .before .pre, (c .before .before .before .before .args .block, standing c))
+
+sub-t7 : tie.Need-sub-t7
+sub-t7 c = found (c .before) .ordered
+
+returns-2 : tie.Need-returns-2
+returns-2 c = let a = c .before .before .before .before .before .before .args in let w = found (c .before) in (w .stream ∙ sym (stream-of (a .image .now) (a .block) (a .signal)), omega (arith, w .ordered, w .inside))
+
+pub wejumo-opened-stream-spec : {M : Type 1} → statement M
+wejumo-opened-stream-spec =
+    tie.close
+    (tie.spec block-count-requires returns block-start-requires part-in-requires sub-t7 returns-2)

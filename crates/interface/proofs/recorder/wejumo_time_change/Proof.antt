@@ -1,0 +1,45 @@
+-- The state and the answer as numbers.
+-- Assumes nothing.
+use Rattle.recording.specs.declared.Encoder.{Encoder}
+use Rattle.recording.specs.Memory.{memory}
+use Rattle.recording.specs.Step.{timeOf}
+use Rattle.storage.specs.Storage.{recordsOf}
+use Rattle.interface.proofs.ToldLaws.{told-made}
+use borrow.Author.Needs.{needs}
+use Rattle.interface.proofs.recorder.wejumo_time_change.Statement.{statement}
+use Rattle.interface.proofs.recorder.wejumo_time_change.Tie as tie
+
+state-from-requires : tie.Need-state-from-requires
+state-from-requires c κs = search needs
+
+time-change-requires : tie.Need-time-change-requires
+time-change-requires c κs = search needs
+
+outcome-numbers-requires : tie.Need-outcome-numbers-requires
+outcome-numbers-requires c κs = search needs
+
+same-length : tie.Need-same-length
+same-length c = search needs
+
+same-length-2 : tie.Need-same-length-2
+same-length-2 c = search needs
+
+same-length-3 : tie.Need-same-length-3
+same-length-3 c = search needs
+
+returns : tie.Need-returns
+returns c =
+    let a = c .before .before .before .before .before .before .before .before .before .before .before .before .before .before .before .before .args in
+    told-made (a .state) (λ (s : Encoder). timeOf (memory s (recordsOf (a .records .now)) (a .times .now) (a .work .now) (a .image .now)) (a .time)) _ _ _ _ _ _ _ _ (c .before .before .before .before .before .before .before .before .before .before .before .state-from .ensures) (c .before .before .before .before .before .before .before .time-change .ensures) (c .outcome-numbers .ensures)
+
+pub wejumo-time-change-spec : {M : Type 1} → statement M
+wejumo-time-change-spec =
+    tie.close
+    (tie.spec
+    state-from-requires
+    time-change-requires
+    outcome-numbers-requires
+    same-length
+    same-length-2
+    same-length-3
+    returns)

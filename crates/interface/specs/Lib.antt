@@ -1,0 +1,4 @@
+pub mod State
+pub mod Recorded
+pub mod Answered
+pub mod Sum

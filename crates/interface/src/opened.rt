@@ -1,0 +1,119 @@
+// The calls on an image that the opener accepted: each asks for that, and none tests it again. A C caller owes it; the Rust wrapper's
+// `Image` opens once and holds the bytes borrowed.
+use crate::answers::CursorNumbers;
+use crate::answers::LoadNumbers;
+use crate::answers::PartNumbers;
+use crate::answers::TableNumbers;
+use crate::answers::cursor_numbers;
+use crate::answers::load_numbers;
+use crate::answers::table_numbers;
+use cursor::cursor_in;
+use loader::load::load_in;
+use storage::kind_number;
+use walk::block::block_start;
+use walk::head::block_count;
+use walk::head::kind_at;
+use walk::head::signal_count;
+use walk::part::part_in;
+use walk::table::table_in;
+use walk::table::table_length;
+ghost use mathlib.Core.Path.{_≡_};
+ghost use mathlib.Core.List.{[]};
+ghost use Prim.Native.Nat.{_+_, _≤_};
+ghost use lib.ListN.{length};
+ghost use Rattle.image.specs.Head.{kindNumber};
+ghost use Rattle.loaded.specs.Opener.{kindAt, streamOf};
+ghost use Rattle.loaded.specs.Loading.{tableFrom};
+ghost use Rattle.loaded.specs.Reader.{loadOf, tableOf, cursorOf};
+ghost use Rattle.walk.specs.Walk.{Opened, imageIn};
+ghost use Rattle.interface.specs.Answered.{loadTold, loadToldOf, tableTold, tableToldOf, partOf, cursorTold, cursorToldOf};
+
+// How many signals there are.
+#[no_mangle]
+pub extern "C" fn wejumo_opened_signals(image: &[u8]) -> u32
+    requires { ⌜ Opened (now image) ⌝ }
+    ensures { λ r. ⌜ r ≡ length (imageIn (now (image .entry)) .kinds) ⌝ }
+{
+    signal_count(image)
+}
+
+// How many blocks there are.
+#[no_mangle]
+pub extern "C" fn wejumo_opened_blocks(image: &[u8]) -> u32
+    requires { ⌜ Opened (now image) ⌝ }
+    ensures { λ r. ⌜ r ≡ length (imageIn (now (image .entry)) .blocks) ⌝ }
+{
+    block_count(image)
+}
+
+// How many times the combined table has.
+#[no_mangle]
+pub extern "C" fn wejumo_opened_times(image: &[u8]) -> u32
+    requires { ⌜ Opened (now image) ⌝ }
+    ensures { λ r. ⌜ r ≡ length (tableFrom [] (imageIn (now (image .entry)) .blocks)) ⌝ }
+{
+    table_length(image)
+}
+
+// The number of a signal's kind; past the signals stands an absent one.
+#[no_mangle]
+pub extern "C" fn wejumo_opened_kind(image: &[u8], signal: u32) -> u32
+    requires { ⌜ Opened (now image) ⌝ }
+    ensures { λ r. ⌜ r ≡ kindNumber (kindAt (imageIn (now (image .entry))) signal) ⌝ }
+{
+    kind_number(kind_at(image, signal))
+}
+
+// Loads a signal. 4, 9.
+#[no_mangle]
+pub extern "C" fn wejumo_opened_load(
+    image: &[u8],
+    signal: u32,
+    index: &mut [u32],
+    bytes: &mut [u8],
+) -> LoadNumbers
+    requires { ⌜ Opened (now image) ⌝ }
+    ensures { λ r. ⌜ loadTold r (now (index .exit)) (now (bytes .exit)) ≡ loadToldOf (loadOf (now (image .entry)) signal (now (index .entry)) (now (bytes .entry))) ⌝ }
+{
+    load_numbers(load_in(image, signal, index, bytes))
+}
+
+// The combined table. 9.
+#[no_mangle]
+pub extern "C" fn wejumo_opened_table(image: &[u8], out: &mut [u64]) -> TableNumbers
+    requires { ⌜ Opened (now image) ⌝ }
+    ensures { λ r. ⌜ tableTold r (now (out .exit)) ≡ tableToldOf (tableOf (now (image .entry)) (now (out .entry))) ⌝ }
+{
+    table_numbers(table_in(image, out))
+}
+
+// The stream of a signal in a block, as a place in the image, since a reference cannot be handed out. Bytes of a stream may stand in an
+// image more than once; the place is one where they do.
+#[no_mangle]
+pub extern "C" fn wejumo_opened_stream(image: &[u8], block: u32, signal: u32) -> PartNumbers
+    requires { ⌜ Opened (now image) ⌝ }
+    ensures { λ r. ⌜ (partOf r (now (image .entry)) ≡ streamOf (now (image .entry)) block signal) × (r .from + r .length ≤ length (now (image .entry))) ⌝ }
+{
+    if block_count(image) <= block {
+        return PartNumbers { from: 0, length: 0 };
+    }
+    let part = part_in(image, block_start(image, block), signal);
+    PartNumbers {
+        from: part.from,
+        length: part.to - part.from,
+    }
+}
+
+// The last entry of a signal at or before a time, or its first. 4, 9.
+#[no_mangle]
+pub extern "C" fn wejumo_opened_cursor(
+    image: &[u8],
+    signal: u32,
+    time: u64,
+    out: &mut [u8],
+) -> CursorNumbers
+    requires { ⌜ Opened (now image) ⌝ }
+    ensures { λ r. ⌜ cursorTold r (now (out .exit)) ≡ cursorToldOf (cursorOf (now (image .entry)) signal time (now (out .entry))) ⌝ }
+{
+    cursor_numbers(cursor_in(image, signal, time, out))
+}

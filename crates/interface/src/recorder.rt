@@ -1,0 +1,203 @@
+// The recorder's calls. Signal records cross as they are stored, one number of 64 bits each (crate storage).
+use crate::state::StateNumbers;
+use crate::state::state_after;
+use crate::state::state_from;
+use plan::Outcome;
+use flat::changes::raw_value_change;
+use flat::changes::real_change;
+use flat::changes::vcd_value_change;
+use flat::finish::finish;
+use flat::start::start;
+use flat::time::time_change;
+use recording::Answer;
+use recording::SignalRef;
+ghost use mathlib.Core.Path.{_≡_};
+ghost use mathlib.Core.List.{[]};
+ghost use Rattle.signal.specs.Content.{vcd, raw, real};
+ghost use Rattle.recording.specs.Calls.{replyOf};
+ghost use Rattle.recording.specs.Memory.{memory};
+ghost use Rattle.recording.specs.Step.{startOf, timeOf, changeOf, finishOf};
+ghost use Rattle.storage.specs.Storage.{recordsOf};
+ghost use Rattle.interface.specs.State.{stateFrom};
+ghost use Rattle.interface.specs.Recorded.{answerNumber, valueNumber, outcomeOf, told, toldOf};
+
+// What a call answers, the refusal's number or the total bytes, and the state after it.
+#[repr(C)]
+pub struct OutcomeNumbers {
+    pub answer: u32,
+    pub value: u32,
+    pub state: StateNumbers,
+}
+
+fn answer_number(answer: Answer) -> u32
+    ensures { λ r. ⌜ r ≡ answerNumber (replyOf answer) ⌝ }
+{
+    match answer {
+        Answer::Refused(_) => 0,
+        Answer::Started => 1,
+        Answer::Taken => 2,
+        Answer::Same => 3,
+        Answer::Back => 4,
+        Answer::Recorded => 5,
+        Answer::Skipped => 6,
+        Answer::Finished(_) => 7,
+    }
+}
+
+fn value_number(answer: Answer) -> u32
+    ensures { λ r. ⌜ r ≡ valueNumber (replyOf answer) ⌝ }
+{
+    match answer {
+        Answer::Refused(number) => number,
+        Answer::Started => 0,
+        Answer::Taken => 0,
+        Answer::Same => 0,
+        Answer::Back => 0,
+        Answer::Recorded => 0,
+        Answer::Skipped => 0,
+        Answer::Finished(total) => total,
+    }
+}
+
+fn outcome_numbers(before: StateNumbers, done: Outcome) -> OutcomeNumbers
+    ensures { λ r. ⌜ r ≡ outcomeOf before (replyOf (done .answer)) (done .state) ⌝ }
+{
+    let answer = done.answer;
+    let after = done.state;
+    let state = state_after(before, after);
+    OutcomeNumbers {
+        answer: answer_number(answer),
+        value: value_number(answer),
+        state,
+    }
+}
+
+// Starts a recording; no work buffer is lent.
+#[no_mangle]
+pub extern "C" fn wejumo_start(
+    state: StateNumbers,
+    limit: u32,
+    signals: u32,
+    records: &mut [u64],
+    times: &[u64],
+    image: &mut [u8],
+) -> OutcomeNumbers
+    ensures { λ r. ⌜ told r (recordsOf (now (records .exit))) (now (times .entry)) [] (now (image .exit))
+        ≡ toldOf state (startOf limit signals (memory (stateFrom state) (recordsOf (now (records .entry))) (now (times .entry)) [] (now (image .entry)))) ⌝ }
+{
+    let done = start(state_from(state), limit, signals, records, times, image);
+    outcome_numbers(state, done)
+}
+
+// A time.
+#[no_mangle]
+pub extern "C" fn wejumo_time_change(
+    state: StateNumbers,
+    records: &mut [u64],
+    times: &mut [u64],
+    work: &[u8],
+    image: &mut [u8],
+    time: u64,
+) -> OutcomeNumbers
+    ensures { λ r. ⌜ told r (recordsOf (now (records .exit))) (now (times .exit)) (now (work .entry)) (now (image .exit))
+        ≡ toldOf state (timeOf (memory (stateFrom state) (recordsOf (now (records .entry))) (now (times .entry)) (now (work .entry)) (now (image .entry))) time) ⌝ }
+{
+    let done = time_change(state_from(state), records, times, work, image, time);
+    outcome_numbers(state, done)
+}
+
+// A VCD value of a signal.
+#[no_mangle]
+pub extern "C" fn wejumo_vcd_value_change(
+    state: StateNumbers,
+    records: &mut [u64],
+    times: &[u64],
+    work: &mut [u8],
+    image: &[u8],
+    signal: u32,
+    value: &[u8],
+) -> OutcomeNumbers
+    ensures { λ r. ⌜ told r (recordsOf (now (records .exit))) (now (times .entry)) (now (work .exit)) (now (image .entry))
+        ≡ toldOf state (changeOf (memory (stateFrom state) (recordsOf (now (records .entry))) (now (times .entry)) (now (work .entry)) (now (image .entry))) signal (vcd (now (value .entry)))) ⌝ }
+{
+    let done = vcd_value_change(
+        state_from(state),
+        records,
+        times,
+        work,
+        image,
+        SignalRef(signal),
+        value,
+    );
+    outcome_numbers(state, done)
+}
+
+// A raw value of a signal, with the class that it claims.
+#[no_mangle]
+pub extern "C" fn wejumo_raw_value_change(
+    state: StateNumbers,
+    records: &mut [u64],
+    times: &[u64],
+    work: &mut [u8],
+    image: &[u8],
+    signal: u32,
+    claim: u32,
+    value: &[u8],
+) -> OutcomeNumbers
+    ensures { λ r. ⌜ told r (recordsOf (now (records .exit))) (now (times .entry)) (now (work .exit)) (now (image .entry))
+        ≡ toldOf state (changeOf (memory (stateFrom state) (recordsOf (now (records .entry))) (now (times .entry)) (now (work .entry)) (now (image .entry))) signal (raw claim (now (value .entry)))) ⌝ }
+{
+    let done = raw_value_change(
+        state_from(state),
+        records,
+        times,
+        work,
+        image,
+        SignalRef(signal),
+        claim,
+        value,
+    );
+    outcome_numbers(state, done)
+}
+
+// A real of a signal, by the 64 bits of its f64.
+#[no_mangle]
+pub extern "C" fn wejumo_real_change(
+    state: StateNumbers,
+    records: &mut [u64],
+    times: &[u64],
+    work: &mut [u8],
+    image: &[u8],
+    signal: u32,
+    bits: u64,
+) -> OutcomeNumbers
+    ensures { λ r. ⌜ told r (recordsOf (now (records .exit))) (now (times .entry)) (now (work .exit)) (now (image .entry))
+        ≡ toldOf state (changeOf (memory (stateFrom state) (recordsOf (now (records .entry))) (now (times .entry)) (now (work .entry)) (now (image .entry))) signal (real bits)) ⌝ }
+{
+    let done = real_change(
+        state_from(state),
+        records,
+        times,
+        work,
+        image,
+        SignalRef(signal),
+        bits,
+    );
+    outcome_numbers(state, done)
+}
+
+// Cuts if any time is held, and closes; answers the total bytes.
+#[no_mangle]
+pub extern "C" fn wejumo_finish(
+    state: StateNumbers,
+    records: &mut [u64],
+    times: &mut [u64],
+    work: &[u8],
+    image: &mut [u8],
+) -> OutcomeNumbers
+    ensures { λ r. ⌜ told r (recordsOf (now (records .exit))) (now (times .exit)) (now (work .entry)) (now (image .exit))
+        ≡ toldOf state (finishOf (memory (stateFrom state) (recordsOf (now (records .entry))) (now (times .entry)) (now (work .entry)) (now (image .entry)))) ⌝ }
+{
+    let done = finish(state_from(state), records, times, work, image);
+    outcome_numbers(state, done)
+}

@@ -1,0 +1,74 @@
+-- Which call a line makes, by its first word; an answer that may be missing, taken apart.
+-- Assumes nothing.
+use Prim.Native.Nat.{ℕ, _<_}
+use mathlib.Core.Path.{_≡_, refl, sym, ap, _∙_}
+use mathlib.Core.Bool.{true, false}
+use mathlib.Core.List.{List, [], _∷_}
+use native.Mathlib.Omega.{arith}
+use borrow.Author.Tests.{ne-eqb}
+use lib.ListN.{length, getD}
+use Rattle.lists.specs.Choice.{pick}
+use Rattle.lists.specs.Same.{same}
+use Rattle.ascii.specs.Ascii.{ascii}
+use Rattle.line.specs.Words.{word}
+use Rattle.line.specs.Numbers.{numberTo}
+use Rattle.line.specs.declared.number.Number.{Number}
+use Rattle.line.specs.declared.number.Number32.{Number32}
+use Rattle.line.specs.Command.{valueIn, valueIn32}
+use Rattle.line.specs.Line.{number32, nothing, finish, notUnderstood, lendOf, startOf, timeOf, vcdOf, rawOf, realOf, callOf, lineOf}
+
+module _ (l : List ℕ) where
+  -- the first word is none of the names before
+  pub call-lend : same (word 0 l) (ascii "lend") ≡ true → callOf l ≡ lendOf l
+  unfolding callOf
+  call-lend a = rw a refl
+
+  pub call-start : same (word 0 l) (ascii "lend") ≡ false → same (word 0 l) (ascii "start") ≡ true → callOf l ≡ startOf l
+  unfolding callOf
+  call-start a b = rw (a, b) refl
+
+  pub call-time : same (word 0 l) (ascii "lend") ≡ false → same (word 0 l) (ascii "start") ≡ false → same (word 0 l) (ascii "time") ≡ true → callOf l ≡ timeOf l
+  unfolding callOf
+  call-time a b d = rw (a, b, d) refl
+
+  pub call-vcd : same (word 0 l) (ascii "lend") ≡ false → same (word 0 l) (ascii "start") ≡ false → same (word 0 l) (ascii "time") ≡ false → same (word 0 l) (ascii "vcd") ≡ true → callOf l ≡ vcdOf l
+  unfolding callOf
+  call-vcd a b d e = rw (a, b, d, e) refl
+
+  pub call-raw : same (word 0 l) (ascii "lend") ≡ false → same (word 0 l) (ascii "start") ≡ false → same (word 0 l) (ascii "time") ≡ false → same (word 0 l) (ascii "vcd") ≡ false → same (word 0 l) (ascii "raw") ≡ true → callOf l ≡ rawOf l
+  unfolding callOf
+  call-raw a b d e f = rw (a, b, d, e, f) refl
+
+  pub call-real : same (word 0 l) (ascii "lend") ≡ false → same (word 0 l) (ascii "start") ≡ false → same (word 0 l) (ascii "time") ≡ false → same (word 0 l) (ascii "vcd") ≡ false → same (word 0 l) (ascii "raw") ≡ false → same (word 0 l) (ascii "real") ≡ true → callOf l ≡ realOf l
+  unfolding callOf
+  call-real a b d e f g = rw (a, b, d, e, f, g) refl
+
+  pub call-finish : same (word 0 l) (ascii "lend") ≡ false → same (word 0 l) (ascii "start") ≡ false → same (word 0 l) (ascii "time") ≡ false → same (word 0 l) (ascii "vcd") ≡ false → same (word 0 l) (ascii "raw") ≡ false → same (word 0 l) (ascii "real") ≡ false
+      → callOf l ≡ pick (same l (ascii "finish")) finish notUnderstood
+  unfolding callOf
+  call-finish a b d e f g = rw (a, b, d, e, f, g) refl
+
+-- ---- an empty line, a comment, any other
+
+pub line-empty : (l : List ℕ) → length l ≡ 0 → nothing ≡ lineOf l
+unfolding lineOf
+line-empty [] h = refl
+line-empty (b ∷ l) h = absurd (omega arith)
+
+pub line-comment : (l : List ℕ) → 0 < length l → getD l 0 0 ≡ 35 → nothing ≡ lineOf l
+unfolding lineOf
+line-comment [] h e = absurd (omega arith)
+line-comment (b ∷ l) h e = rw e refl
+
+pub line-call : (l : List ℕ) → 0 < length l → (getD l 0 0 ≡ 35 → ⊥) → callOf l ≡ lineOf l
+unfolding lineOf
+line-call [] h n = absurd (omega arith)
+line-call (b ∷ l) h n = rw (ne-eqb b 35 n) refl
+
+-- ---- a number that was read of a part w of the line, by the answer v
+
+pub number-read : (r v : Number) (most : ℕ) (s w : List ℕ) → valueIn r ≡ numberTo most s → s ≡ w → r ≡ v → numberTo most w ≡ valueIn v
+number-read r v most s w e p q = sym (ap (numberTo most) p) ∙ sym e ∙ ap valueIn q
+
+pub number32-read : (r v : Number32) (s w : List ℕ) → valueIn32 r ≡ number32 s → s ≡ w → r ≡ v → number32 w ≡ valueIn32 v
+number32-read r v s w e p q = sym (ap number32 p) ∙ sym e ∙ ap valueIn32 q

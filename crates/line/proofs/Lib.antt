@@ -1,0 +1,6 @@
+pub mod WordLaws
+pub mod NumberLaws
+pub mod HexLaws
+pub mod KindLaws
+pub mod CallLaws
+pub mod Cases

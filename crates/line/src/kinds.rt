@@ -1,0 +1,123 @@
+// The kinds of a start, which are the words of its line after the third, and the records that they become.
+use crate::number::Number32;
+use crate::number::decimal_32;
+use crate::words::count_words;
+use crate::words::spells;
+use crate::words::word;
+use recording::SignalRecord;
+use recording::SignalRef;
+use signal::kind::SignalEncoding;
+use storage::put_record;
+use value::states::States;
+ghost use mathlib.Core.Path.{_≡_};
+ghost use mathlib.Core.List.{map};
+ghost use lib.ListN.{length};
+ghost use lib.Seq.{sets};
+ghost use Rattle.lists.specs.Choice.{isSome};
+ghost use Rattle.storage.specs.Storage.{recordsOf};
+ghost use Rattle.line.specs.Line as spec;
+ghost use Rattle.line.specs.Command.{kindInside, kindList, begun, putKind};
+
+pub enum MaybeKind {
+    Some(SignalEncoding),
+    None,
+}
+
+// A vector, but for widths that no vector has: they all become 65,537, which start refuses. Stored as they are, the two largest would
+// be a real and an absent signal.
+fn vector(width: u32) -> SignalEncoding
+    ensures { λ r. ⌜ r ≡ spec.vector width ⌝ }
+{
+    if 65537 < width {
+        return SignalEncoding::BitVector(65537);
+    }
+    SignalEncoding::BitVector(width)
+}
+
+// The kind of a word.
+fn kind_of(w: &[u8]) -> MaybeKind
+    ensures { λ r. ⌜ kindInside r ≡ spec.kindOf (now (w .entry)) ⌝ }
+{
+    if spells(w, b"event") {
+        return MaybeKind::Some(SignalEncoding::BitVector(0));
+    }
+    if spells(w, b"real") {
+        return MaybeKind::Some(SignalEncoding::Real);
+    }
+    if spells(w, b"absent") {
+        return MaybeKind::Some(SignalEncoding::Absent);
+    }
+    match decimal_32(w) {
+        Number32::Value(width) => MaybeKind::Some(vector(width)),
+        Number32::None => MaybeKind::None,
+    }
+}
+
+// A word is a kind.
+fn is_kind(w: &[u8]) -> bool
+    ensures { λ r. ⌜ r ≡ isSome (spec.kindOf (now (w .entry))) ⌝ }
+{
+    match kind_of(w) {
+        MaybeKind::Some(kind) => true,
+        MaybeKind::None => false,
+    }
+}
+
+// The words after the third are kinds, at most 256.
+pub fn has_kinds(line: &[u8]) -> bool
+    ensures { λ r. ⌜ r ≡ isSome (spec.kindsIn (now (line .entry))) ⌝ }
+{
+    let n = count_words(line);
+    if 259 < n {
+        return false;
+    }
+    let mut k = 3;
+    while k < n {
+        if !is_kind(word(line, k)) {
+            return false;
+        }
+        k += 1;
+    }
+    true
+}
+
+// Stores the record with which a signal of this kind begins.
+fn put_kind(records: &mut [u64], at: u32, w: &[u8])
+    ensures { λ r. ⌜ recordsOf (now (records .exit)) ≡ putKind (recordsOf (now (records .entry))) at (spec.kindOf (now (w .entry))) ⌝ }
+{
+    match kind_of(w) {
+        MaybeKind::Some(kind) => {
+            let top = States::Two;
+            put_record(
+                records,
+                SignalRef(at),
+                SignalRecord {
+                    kind,
+                    index: 0,
+                    top,
+                },
+            )
+        }
+        MaybeKind::None => {}
+    }
+}
+
+// Writes the records of a start's kinds to the start of records, as far as there is room, and answers how many there are. A line whose
+// kinds are not understood has none.
+pub fn put_kinds(records: &mut [u64], line: &[u8]) -> usize
+    ensures { λ r. ⌜ (r ≡ length (kindList (now (line .entry))))
+        × (recordsOf (now (records .exit)) ≡ sets (recordsOf (now (records .entry))) 0 (map begun (kindList (now (line .entry))))) ⌝ }
+{
+    if !has_kinds(line) {
+        return 0;
+    }
+    let n = count_words(line);
+    let mut at: u32 = 0;
+    let mut k = 3;
+    while k < n {
+        put_kind(records, at, word(line, k));
+        at += 1;
+        k += 1;
+    }
+    at as usize
+}

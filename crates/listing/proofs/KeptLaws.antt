@@ -1,0 +1,190 @@
+-- The kept entries of a signal of a valid image: their contents fit its kind, their classes its class, their indices the combined table.
+-- And they are no more than the signal's streams have room for.
+-- Assumes nothing.
+use Prim.Native.Nat.{ℕ, suc, _+_, _-_, _*_, _≤_, _<_}
+use mathlib.Core.Path.{_≡_, refl, ap, _∙_}
+use mathlib.Core.Bool.{Bool, true, false}
+use mathlib.Core.List.{List, [], _∷_, _++_}
+use mathlib.Core.Option.{Option, some, none}
+use native.Mathlib.Nat.{mul-le-mul}
+use native.Mathlib.Omega.{arith}
+use lib.Dec.{eqb}
+use lib.ListN.{length, getD, drop, length-append, length-drop}
+use Rattle.lists.specs.Choice.{pick}
+use Rattle.lists.specs.Last.{lastOr}
+use Rattle.value.specs.Class.{classOfAll}
+use Rattle.signal.specs.declared.kind.SignalEncoding.{SignalEncoding}
+use Rattle.signal.specs.declared.kind.SignalEncoding.the-variants.{Absent}
+use Rattle.signal.specs.Content.{ContentFits, symbolsOf}
+use Rattle.stream.specs.Stream.{changeBytes}
+use Rattle.stream.specs.Entries.{Entry, streamBytes, orNine}
+use Rattle.image.specs.Block.{Part, Block}
+use Rattle.image.specs.Image.{Image}
+use Rattle.codec.specs.Valid.{EntriesFit, OptionFits, topsAfter, firstIndex, BlocksFit, Valid}
+use Rattle.loaded.specs.Opener.{kindAt, partAt, streamIn}
+use Rattle.loaded.specs.Loading.{overlap, joinTimes, tableFrom, moved, repeatsLast, pushed, Load, load, entriesIn, topIn, loadBlock, loadFrom, loads, signalClass}
+use Rattle.entry.proofs.EntriesLaws.{EachFits}
+use Rattle.loader.proofs.BlockLaws.{part-fits, entries-fit}
+use Rattle.loader.proofs.BlocksLaws.{class-grows}
+use Rattle.loader.proofs.LoadLaws.{class-two}
+use Rattle.listing.proofs.LengthLaws.{leastLength, change-least}
+
+-- ---- the combined table
+
+overlap-both : (l ts : List ℕ) → (overlap l ts ≤ length l) × (overlap l ts ≤ length ts)
+overlap-both [] ts = (omega arith, omega arith)
+overlap-both (x ∷ l) [] = (omega arith, omega arith)
+overlap-both (x ∷ l) (t ∷ ts) = by (eqb t (lastOr x l))
+  where
+    by : (b : Bool) → (pick b 1 0 ≤ suc (length l)) × (pick b 1 0 ≤ suc (length ts))
+    by true = (omega arith, omega arith)
+    by false = (omega arith, omega arith)
+
+pub joined-length : (l ts : List ℕ) → length (joinTimes l ts) ≡ length l - overlap l ts + length ts
+joined-length l ts =
+    let o = overlap-both l ts in
+    length-append l (drop (overlap l ts) ts) ∙ omega (arith, length-drop (overlap l ts) ts, o .0, o .1)
+
+times-grow : (g : ℕ) (l : Load) (bs : List (Block (List Entry))) → length (l .times) ≤ length (loadFrom g l bs .times)
+unfolding loadFrom
+times-grow g l [] = omega arith
+times-grow g l (y ∷ bs) =
+    let o = overlap-both (l .times) (y .times) in
+    omega (arith, joined-length (l .times) (y .times), o .0, o .1, times-grow g (loadBlock g l y) bs)
+
+table-from : (g : ℕ) (l : Load) (bs : List (Block (List Entry))) → loadFrom g l bs .times ≡ tableFrom (l .times) bs
+unfolding loadFrom tableFrom
+table-from g l [] = refl
+table-from g l (y ∷ bs) = table-from g (loadBlock g l y) bs
+
+loaded-table : (g : ℕ) (bs : List (Block (List Entry))) → loads g bs .times ≡ tableFrom [] bs
+loaded-table g bs = table-from g (load [] [] 0) bs
+
+-- ---- the kept entries
+
+-- an entry of a signal of kind k and class c, in a table of n times
+pub record KeptFits (k : SignalEncoding) (c n : ℕ) (e : Entry) : Type 0 where
+  pub content : ContentFits k (e .content)
+  pub class : classOfAll (symbolsOf (e .content)) ≤ c
+  pub inside : e .index < n
+
+abbrev pub EachKept : SignalEncoding → (c n : ℕ) → List Entry → Type 0
+EachKept k c n [] = Unit {0}
+EachKept k c n (e ∷ es) = KeptFits k c n e × EachKept k c n es
+
+module _ (k : SignalEncoding) (c n : ℕ) where
+  one-kept : (out : List Entry) (e : Entry) → EachKept k c n out → KeptFits k c n e → EachKept k c n (out ++ e ∷ [])
+  one-kept [] e f h = (h, tt)
+  one-kept (o ∷ out) e f h = (f .0, one-kept out e (f .1) h)
+
+  picked-kept : (t : Bool) (out : List Entry) (e : Entry) → EachKept k c n out → KeptFits k c n e → EachKept k c n (pick t out (out ++ e ∷ []))
+  picked-kept true out e f h = f
+  picked-kept false out e f h = one-kept out e f h
+
+  pushed-kept : (out es : List Entry) → EachKept k c n out → EachKept k c n es → EachKept k c n (pushed out es)
+  unfolding pushed
+  pushed-kept out [] f h = f
+  pushed-kept out (e ∷ es) f h =
+      pushed-kept (pick (repeatsLast out (e .content)) out (out ++ e ∷ [])) es (picked-kept (repeatsLast out (e .content)) out e f (h .0)) (h .1)
+
+  moved-kept : (m i top base : ℕ) (es : List Entry) → EntriesFit k m i top es → top ≤ c → base + m ≤ n → EachKept k c n (moved base es)
+  unfolding moved
+  moved-kept m i top base [] f h z = tt
+  moved-kept m i top base (e ∷ es) f h z =
+      (record { content = f .0 .content; class = omega (arith, f .0 .class); inside = omega (arith, f .0 .inside) }, moved-kept m (e .index) top base es (f .1) h z)
+
+module _ (limit : ℕ) (ks : List SignalEncoding) (g : ℕ) where
+  abbrev kind : SignalEncoding
+  kind = getD ks g Absent
+
+  loads-kept : (c n : ℕ) (end : Option ℕ) (tops : List ℕ) (l : Load) (bs : List (Block (List Entry))) → BlocksFit limit ks end tops bs
+      → loadFrom g l bs .class ≤ c → length (loadFrom g l bs .times) ≤ n → EachKept kind c n (l .entries) → EachKept kind c n (loadFrom g l bs .entries)
+  unfolding loadFrom
+  loads-kept c n end tops l [] f h z e = e
+  loads-kept c n end tops l (y ∷ bs) f h z e =
+      let p = part-fits (length (y .times)) (firstIndex end) ks tops (y .parts) g (f .0 .parts) in
+      let new = moved-kept kind c n (length (y .times)) (firstIndex end) (topIn (partAt y g)) (length (l .times) - overlap (l .times) (y .times)) (entriesIn (partAt y g))
+      (entries-fit kind (length (y .times)) (firstIndex end) (p .0) (partAt y g) (p .1))
+      (omega (arith, class-grows g (loadBlock g l y) bs))
+      (omega (arith, times-grow g (loadBlock g l y) bs, joined-length (l .times) (y .times))) in
+      loads-kept c n (some (lastOr 0 (y .times))) (topsAfter tops (y .parts)) (loadBlock g l y) bs (f .1) h z (pushed-kept kind c n (l .entries) _ e new)
+
+nine-most : (es : List Entry) (c : ℕ) → c ≤ 2 → orNine es c ≤ 2
+nine-most [] c h = omega arith
+nine-most (e ∷ es) c h = h
+
+kept-nine : (k : SignalEncoding) (c n : ℕ) (es : List Entry) → EachKept k c n es → EachKept k (orNine es c) n es
+kept-nine k c n [] f = tt
+kept-nine k c n (e ∷ es) f = f
+
+module _ (x : Image) (v : Valid x) (g : ℕ) where
+  abbrev loaded : Load
+  loaded = loads g (x .blocks)
+
+  pub class-most : signalClass loaded ≤ 2
+  class-most = nine-most (loaded .entries) (loaded .class) (class-two (x .limit) (x .kinds) none [] g (load [] [] 0) (x .blocks) (v .blocks) (omega arith))
+
+  pub each-kept : EachKept (kindAt x g) (signalClass loaded) (length (tableFrom [] (x .blocks))) (loaded .entries)
+  each-kept =
+      let t = loaded-table g (x .blocks) in
+      kept-nine (kindAt x g) (loaded .class) _ (loaded .entries)
+      (loads-kept (x .limit) (x .kinds) g (loaded .class) (length (tableFrom [] (x .blocks))) none [] (load [] [] 0) (x .blocks) (v .blocks) (omega arith) (omega (arith, ap length t)) tt)
+
+  pub kept-fits : EachFits (kindAt x g) (signalClass loaded) (loaded .entries)
+  kept-fits = by (kindAt x g) (signalClass loaded) (loaded .entries) each-kept
+    where
+      by : (k : SignalEncoding) (c : ℕ) (es : List Entry) → EachKept k c (length (tableFrom [] (x .blocks))) es → EachFits k c es
+      by k c [] f = tt
+      by k c (e ∷ es) f = ((f .0 .content, f .0 .class), by k c es (f .1))
+
+-- ---- how many
+
+pushed-few : (out es : List Entry) → length (pushed out es) ≤ length out + length es
+unfolding pushed
+pushed-few out [] = omega arith
+pushed-few out (e ∷ es) =
+    omega (arith, pushed-few (pick (repeatsLast out (e .content)) out (out ++ e ∷ [])) es, by (repeatsLast out (e .content)))
+  where
+    by : (t : Bool) → length (pick t out (out ++ e ∷ [])) ≤ suc (length out)
+    by true = omega arith
+    by false = omega (arith, length-append out (e ∷ []))
+
+length-moved : (n : ℕ) (es : List Entry) → length (moved n es) ≡ length es
+unfolding moved
+length-moved n [] = refl
+length-moved n (e ∷ es) = ap suc (length-moved n es)
+
+stream-least : (k : SignalEncoding) (n j i top : ℕ) (es : List Entry) → EntriesFit k n i top es → length es * leastLength k ≤ length (streamBytes k j es)
+unfolding streamBytes
+stream-least k n j i top [] f = omega arith
+stream-least k n j i top (e ∷ es) f =
+    let c = change-least k (e .index - j) (e .content) (f .0 .content) in
+    let r = stream-least k n (e .index) (e .index) top es (f .1) in
+    omega (arith, length-append (changeBytes k (e .index - j) (e .content)) (streamBytes k (e .index) es))
+
+part-least : (k : SignalEncoding) (n i before : ℕ) (p : Option (Part (List Entry))) → OptionFits k n i before p → length (entriesIn p) * leastLength k ≤ length (streamIn k p)
+part-least k n i before none f = omega arith
+part-least k n i before (some p) f = stream-least k n 0 i (p .top) (p .stream) (f .entries)
+
+-- the bytes of a signal's streams in all blocks
+unfoldable pub streamsLength : SignalEncoding → (signal : ℕ) → List (Block (List Entry)) → ℕ
+streamsLength k g [] = 0
+streamsLength k g (y ∷ bs) = length (streamIn k (partAt y g)) + streamsLength k g bs
+
+kept-few : (limit : ℕ) (ks : List SignalEncoding) (g : ℕ) (end : Option ℕ) (tops : List ℕ) (l : Load) (bs : List (Block (List Entry))) → BlocksFit limit ks end tops bs
+    → length (loadFrom g l bs .entries) * leastLength (getD ks g Absent) ≤ length (l .entries) * leastLength (getD ks g Absent) + streamsLength (getD ks g Absent) g bs
+unfolding loadFrom streamsLength
+kept-few limit ks g end tops l [] f = omega arith
+kept-few limit ks g end tops l (y ∷ bs) f =
+    let k : SignalEncoding = getD ks g Absent in
+    let es : List Entry = entriesIn (partAt y g) in
+    let m : ℕ = length (l .times) - overlap (l .times) (y .times) in
+    let p = part-fits (length (y .times)) (firstIndex end) ks tops (y .parts) g (f .0 .parts) in
+    let here : length es * leastLength k ≤ length (streamIn k (partAt y g)) = part-least k (length (y .times)) (firstIndex end) (p .0) (partAt y g) (p .1) in
+    let grown : length (loadBlock g l y .entries) ≤ length (l .entries) + length es = omega (arith, pushed-few (l .entries) (moved m es), length-moved m es) in
+    let most : length (loadBlock g l y .entries) * leastLength k ≤ (length (l .entries) + length es) * leastLength k = mul-le-mul grown (omega arith) in
+    let rest = kept-few limit ks g (some (lastOr 0 (y .times))) (topsAfter tops (y .parts)) (loadBlock g l y) bs (f .1) in
+    omega arith
+
+pub kept-least : (x : Image) → Valid x → (g : ℕ) → length (loads g (x .blocks) .entries) * leastLength (kindAt x g) ≤ streamsLength (kindAt x g) g (x .blocks)
+kept-least x v g = omega (arith, kept-few (x .limit) (x .kinds) g none [] (load [] [] 0) (x .blocks) (v .blocks))

@@ -1,0 +1,170 @@
+-- How long the lines of a listing are: a time's against its 8 bytes in an image, a signal's against the 4 bytes of its kind, an entry's
+-- against the bytes of its change in a stream.
+-- Assumes nothing.
+use Prim.Native.Nat.{ℕ, zero, suc, _+_, _*_, _/_, _%_, _≤_, _<_, _^_}
+use mathlib.Core.Path.{_≡_, refl, ap, _∙_}
+use mathlib.Core.Bool.{Bool, true, false}
+use mathlib.Core.List.{List, [], _∷_, _++_}
+use native.Mathlib.Nat.{pow-suc}
+use native.Mathlib.Omega.{arith}
+use borrow.Author.Tests.{leb-true, lt-ltb}
+use lib.Dec.{ltb}
+use lib.ListN.{length, length-append, length-map}
+use Rattle.lists.specs.Choice.{pick}
+use Rattle.ascii.specs.Ascii.{ascii, digitCode, decimalIn, decimal, hexadecimal}
+use Rattle.numbers.specs.Leb128.{lebOf}
+use Rattle.numbers.specs.LittleEndian.{le}
+use Rattle.numbers.proofs.Leb128Laws.{leb-any}
+use Rattle.numbers.proofs.LittleEndianLaws.{length-le}
+use Rattle.value.specs.Class.{classOfAll}
+use Rattle.value.proofs.ClassLaws.{class-all-small}
+use Rattle.packed.specs.Packed.{packedLength, packed}
+use Rattle.packed.proofs.PackedLaws.{length-packed}
+use Rattle.signal.specs.declared.kind.SignalEncoding.{SignalEncoding}
+use Rattle.signal.specs.declared.kind.SignalEncoding.the-variants.{BitVector, Real, Absent}
+use Rattle.signal.specs.Kind.{knownKind}
+use Rattle.signal.specs.Content.{Content, happened, symbols, bits, ContentFits}
+use Rattle.stream.specs.Stream.{changeBytes}
+use Rattle.stream.specs.Entries.{Entry}
+use Rattle.entry.specs.Length.{classByte, wideLength, entryLength}
+use Rattle.entry.proofs.LengthLaws.{packed-fewer}
+use Rattle.listing.specs.Listing.{lineEnd, headLine, timeLine, timeLines, vectorWords, kindWords, signalLine, letterOf, contentWords, entryLine}
+
+-- ---- numbers
+
+one-digit : (t : Bool) (l : List ℕ) (d m : ℕ) → length l ≤ m → length (pick t [] l ++ d ∷ []) ≤ suc m
+one-digit true l d m h = omega arith
+one-digit false l d m h = omega (arith, length-append l (d ∷ []))
+
+places-most : (k n : ℕ) → length (decimalIn k n) ≤ k
+unfolding decimalIn
+places-most zero n = omega arith
+places-most (suc k) n = one-digit (ltb n 10) (decimalIn k (n / 10)) (digitCode (n % 10)) k (places-most k (n / 10))
+
+pub decimal-most : (n : ℕ) → length (decimal n) ≤ 20
+decimal-most n = places-most 20 n
+
+digits-few : (j k n : ℕ) → n < 10 ^ suc j → length (decimalIn k n) ≤ suc j
+unfolding decimalIn
+digits-few zero zero n h = omega arith
+digits-few zero (suc k) n h = rw (lt-ltb n 10 h) (omega arith)
+digits-few (suc j) zero n h = omega arith
+digits-few (suc j) (suc k) n h =
+    one-digit (ltb n 10) (decimalIn k (n / 10)) (digitCode (n % 10)) (suc j) (digits-few j k (n / 10) (omega (arith, pow-suc 10 (suc j))))
+
+pub decimal-five : (n : ℕ) → n < 100000 → length (decimal n) ≤ 5
+decimal-five n h = digits-few 4 20 n h
+
+length-hexadecimal : (k n : ℕ) → length (hexadecimal k n) ≡ k
+unfolding hexadecimal
+length-hexadecimal zero n = omega arith
+length-hexadecimal (suc k) n = length-append (hexadecimal k (n / 16)) (digitCode (n % 16) ∷ []) ∙ omega (arith, length-hexadecimal k (n / 16))
+
+-- ---- the head and the times
+
+pub head-line : (s t n : ℕ) → length (headLine s t n) ≤ 84
+head-line s t n = simp length-append (omega (arith, decimal-most s, decimal-most t, decimal-most n))
+
+time-line : (i t : ℕ) → length (timeLine i t) ≤ 47
+time-line i t = simp length-append (omega (arith, decimal-most i, decimal-most t))
+
+pub time-lines : (i : ℕ) (ts : List ℕ) → length (timeLines i ts) ≤ 47 * length ts
+unfolding timeLines
+time-lines i [] = omega arith
+time-lines i (t ∷ ts) = omega (arith, length-append (timeLine i t) (timeLines (suc i) ts), time-line i t, time-lines (suc i) ts)
+
+-- ---- a signal's line
+
+vector-words : (w c : ℕ) → w ≤ 65536 → c ≤ 2 → length (vectorWords w c) ≤ 23
+vector-words zero c h z = omega arith
+vector-words (suc w) c h z = simp length-append (omega (arith, decimal-five (suc w) (omega arith), decimal-five c (omega arith)))
+
+kind-words : (k : SignalEncoding) (c n : ℕ) → knownKind k ≡ true → c ≤ 2 → n < 100000 → length (kindWords k c n) ≤ 37
+kind-words (BitVector w) c n h z m =
+    let v = vector-words w c (leb-true w 65536 h) z in
+    omega (arith, length-append (vectorWords w c ++ ascii " changes ") (decimal n), length-append (vectorWords w c) (ascii " changes "), decimal-five n m)
+kind-words Real c n h z m = omega (arith, decimal-five n m)
+kind-words Absent c n h z m = omega arith
+
+pub signal-line : (g : ℕ) (k : SignalEncoding) (c n : ℕ) → g < 100000 → knownKind k ≡ true → c ≤ 2 → n < 100000 → length (signalLine g k c n) ≤ 64
+signal-line g k c n f h z m =
+    omega (
+      arith,
+      length-append (decimal g ++ ascii " " ++ kindWords k c n) lineEnd,
+      length-append (decimal g ++ ascii " ") (kindWords k c n),
+      length-append (decimal g) (ascii " "),
+      decimal-five g f,
+      kind-words k c n h z m,
+    )
+
+-- ---- a change, its entry and its line
+
+-- a change of a signal takes so many bytes at least
+abbrev pub leastLength : SignalEncoding → ℕ
+leastLength (BitVector zero) = 1
+leastLength (BitVector (suc zero)) = 1
+leastLength (BitVector (suc (suc w))) = 1 + packedLength (suc (suc w)) 0
+leastLength Real = 9
+leastLength Absent = 0
+
+wide-least : (w n c : ℕ) (s : List ℕ) → length s ≡ w → c ≡ classOfAll s → 1 + packedLength w 0 ≤ length (lebOf n ++ packed c s)
+wide-least w n c s e f =
+    let p : length (packed c s) ≡ packedLength w c = length-packed c s ∙ ap (λ (v : ℕ). packedLength v c) e in
+    let q : c ≤ 2 = omega (arith, class-all-small s) in
+    omega (arith, length-append (lebOf n) (packed c s), leb-any n, packed-fewer w 0 c (omega arith) q)
+
+pub change-least : (k : SignalEncoding) (d : ℕ) (c : Content) → ContentFits k c → leastLength k ≤ length (changeBytes k d c)
+unfolding changeBytes
+change-least (BitVector zero) d c f = omega (arith, leb-any d)
+change-least (BitVector (suc w)) d happened f = absurd f
+change-least (BitVector (suc zero)) d (symbols s) f = leb-any _
+change-least (BitVector (suc (suc w))) d (symbols s) f = wide-least (suc (suc w)) _ (classOfAll s) s (f .0) refl
+change-least (BitVector (suc w)) d (bits b) f = absurd f
+change-least Real d happened f = absurd f
+change-least Real d (symbols s) f = absurd f
+change-least Real d (bits b) f = omega (arith, length-append (lebOf d) (le 8 b), leb-any d, length-le 8 b)
+change-least Absent d c f = absurd f
+
+pub least-any : (k : SignalEncoding) (c : Content) → ContentFits k c → 1 ≤ leastLength k
+least-any (BitVector zero) c f = omega arith
+least-any (BitVector (suc zero)) c f = omega arith
+least-any (BitVector (suc (suc w))) c f = omega arith
+least-any Real c f = omega arith
+least-any Absent c f = absurd f
+
+-- an entry has at most four times the bytes
+one-more : (t : Bool) → pick t 1 0 ≤ 1
+one-more true = omega arith
+one-more false = omega arith
+
+wide-most : (w c : ℕ) → c ≤ 2 → wideLength w c ≤ 4 * (1 + packedLength w 0)
+wide-most w zero z = omega (arith, one-more (classByte w 0))
+wide-most w (suc zero) z = omega (arith, one-more (classByte w 1))
+wide-most w (suc (suc zero)) z = omega (arith, one-more (classByte w 2))
+wide-most w (suc (suc (suc c))) z = absurd (omega arith)
+
+pub entry-most : (k : SignalEncoding) (c : ℕ) → c ≤ 2 → entryLength k c ≤ 4 * leastLength k
+unfolding entryLength
+entry-most (BitVector zero) c z = omega arith
+entry-most (BitVector (suc zero)) c z = omega arith
+entry-most (BitVector (suc (suc w))) c z = wide-most (suc (suc w)) c z
+entry-most Real c z = omega arith
+entry-most Absent c z = omega arith
+
+-- and its line at most sixteen times
+content-words : (k : SignalEncoding) (c : Content) → ContentFits k c → length (contentWords c) + 6 ≤ 16 * leastLength k
+content-words (BitVector zero) happened f = omega arith
+content-words (BitVector zero) (symbols s) f = absurd f
+content-words (BitVector zero) (bits b) f = absurd f
+content-words (BitVector (suc w)) happened f = absurd f
+content-words (BitVector (suc zero)) (symbols s) f = omega (arith, length-map s letterOf, f .0)
+content-words (BitVector (suc (suc w))) (symbols s) f = omega (arith, length-map s letterOf, f .0)
+content-words (BitVector (suc w)) (bits b) f = absurd f
+content-words Real happened f = absurd f
+content-words Real (symbols s) f = absurd f
+content-words Real (bits b) f = omega (arith, length-hexadecimal 16 b)
+content-words Absent c f = absurd f
+
+pub entry-line : (k : SignalEncoding) (e : Entry) → ContentFits k (e .content) → e .index < 100000 → length (entryLine e) ≤ 16 * leastLength k
+entry-line k e f h =
+    omega (arith, length-append (decimal (e .index) ++ contentWords (e .content)) lineEnd, length-append (decimal (e .index)) (contentWords (e .content)), decimal-five (e .index) h, content-words k (e .content) f)

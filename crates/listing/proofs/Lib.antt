@@ -1,0 +1,8 @@
+pub mod LengthLaws
+pub mod KeptLaws
+pub mod BoundLaws
+pub mod Cases
+pub mod LineLaws
+pub mod EntryLaws
+pub mod SignalLaws
+pub mod ImageLaws

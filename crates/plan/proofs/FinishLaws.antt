@@ -1,0 +1,46 @@
+-- The plan of a finish, case by case, as the code meets the cases.
+-- Assumes nothing.
+use Prim.Native.Nat.{ℕ}
+use mathlib.Core.Path.{_≡_, refl, _∙_}
+use mathlib.Core.List.{List}
+use borrow.Author.Tests.{eq-eqb, ne-eqb}
+use lib.ListN.{length}
+use lib.Dec.{eqb}
+use Rattle.lists.specs.Choice.{pick}
+use Rattle.recording.specs.declared.Encoder.{Encoder}
+use Rattle.recording.specs.Memory.{Tests, first}
+use Rattle.recording.specs.Refusals.{stateTests}
+use Rattle.refusals.proofs.TestsLaws.{guarded-none, guarded-first}
+use Rattle.refusals.proofs.StateLaws.{state-positive}
+use Rattle.cut.specs.declared.CutSize.{CutSize}
+use Rattle.cut.specs.Cut.{sized, cutState}
+use Rattle.plan.specs.declared.Plan.{Plan}
+use Rattle.plan.specs.Plan.{still, cutting, planRefused, closing, finishSized, planFinish}
+
+module _ (s : Encoder) (n t : ℕ) (w : List ℕ) (i : ℕ) where
+  abbrev tests : Tests
+  tests = stateTests s n t (length w) i
+
+  abbrev going : Plan
+  going = pick (eqb (s .held) 0) (still (closing s) s) (finishSized s n (sized s w i))
+
+  pub finish-refused : (first tests ≡ 0 → ⊥) → planFinish s n t w i ≡ planRefused s (first tests)
+  unfolding planFinish
+  finish-refused z = guarded-first tests (planRefused s) going z
+
+  past : first tests ≡ 0 → planFinish s n t w i ≡ going
+  unfolding planFinish
+  past z = guarded-none tests (planRefused s) going (state-positive s n t (length w) i) z
+
+  pub finish-empty : first tests ≡ 0 → s .held ≡ 0 → planFinish s n t w i ≡ still (closing s) s
+  finish-empty z e = past z ∙ rw (eq-eqb (s .held) 0 e) refl
+
+  pub finish-held : first tests ≡ 0 → (s .held ≡ 0 → ⊥) → planFinish s n t w i ≡ finishSized s n (sized s w i)
+  finish-held z e = past z ∙ rw (ne-eqb (s .held) 0 e) refl
+
+pub sized-refused : (s : Encoder) (n : ℕ) (c : CutSize) → (c .refusal ≡ 0 → ⊥) → finishSized s n c ≡ planRefused s (c .refusal)
+sized-refused s n c z = rw (ne-eqb (c .refusal) 0 z) refl
+
+pub sized-cut : (s : Encoder) (n : ℕ) (c : CutSize) → c .refusal ≡ 0
+    → finishSized s n c ≡ cutting (closing (cutState s (c .size))) s (c .size) n
+sized-cut s n c z = rw (eq-eqb (c .refusal) 0 z) refl

@@ -1,0 +1,4 @@
+pub mod BeginLaws
+pub mod CarryLaws
+pub mod FinishLaws
+pub mod TimeLaws

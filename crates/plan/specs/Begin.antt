@@ -1,0 +1,45 @@
+-- A start, but for the loops over the records: whether it is taken, and the head's numbers.
+-- proofs/BeginLaws: with the loops this is `startOf`.
+-- Assumes nothing.
+use Prim.Native.Nat.{ℕ}
+use mathlib.Core.Bool.{Bool, false}
+use mathlib.Core.List.{List}
+use lib.ListN.{length}
+use Rattle.image.specs.Head.{headSize}
+use Rattle.recording.specs.declared.Answer.the-variants.{Started, Refused}
+use Rattle.recording.specs.declared.Encoder.{Encoder}
+use Rattle.recording.specs.Calls.{replyOf}
+use Rattle.recording.specs.Memory.{Memory, memory, After, after, guarded}
+use Rattle.recording.specs.Refusals.{startTests, unknownKind}
+use Rattle.recording.specs.Step.{encoder, fresh}
+use Rattle.head.specs.Kinds.{headNumbers, kindsPut}
+use Rattle.cut.specs.Turns.{firstBy}
+use Rattle.plan.specs.declared.Outcome.{Outcome}
+use Rattle.plan.specs.declared.Begun.{Begun}
+use Rattle.plan.specs.Plan.{outcome}
+
+-- `turns` of the loop over the records follow
+abbrev pub begun : Outcome → (turns : ℕ) → Begun
+begun o n = record { outcome = o; turns = n }
+
+-- the state of a recording without times and blocks
+abbrev pub begunState : (limit signals : ℕ) → Encoder
+begunState l s = encoder false l s 0 0 (headSize s) 0 false 0
+
+-- a start of `records` records, by whether a kind among them is unknown; `times` and `image` are how many times and bytes are lent
+unfoldable pub beginOf : Encoder → (limit signals : ℕ) → (unknown : Bool) → (records times image : ℕ) → Begun
+beginOf s l g u n t i = guarded (startTests l g n u t i) (λ k. begun (outcome (Refused k) s) 0) (begun (outcome Started (begunState l g)) n)
+
+-- the image before the loop
+unfoldable pub beginIn : (limit signals : ℕ) → (unknown : Bool) → (records times : ℕ) → (image : List ℕ) → List ℕ
+beginIn l g u n t i = guarded (startTests l g n u t (length i)) (λ k. i) (headNumbers l g i)
+
+-- a start with its loops
+abbrev pub startCarried : (limit signals : ℕ) → Memory → After
+startCarried l g m =
+    let u = unknownKind (m .records) in
+    let n = length (m .records) in
+    let b = beginOf (m .state) l g u n (length (m .times)) (length (m .image)) in
+    after (replyOf (b .outcome .answer))
+    (memory (b .outcome .state) (firstBy fresh (b .turns) (m .records)) (m .times) (m .work)
+    (kindsPut (b .turns) (m .records) (beginIn l g u n (length (m .times)) (m .image))))

@@ -1,0 +1,4 @@
+pub mod Plan
+pub mod Carry
+pub mod Begin
+pub mod Way

@@ -1,0 +1,5 @@
+pub mod Rows
+pub mod Upto
+pub mod Again
+pub mod Shared
+pub mod UnknownLaws

@@ -1,0 +1,101 @@
+/* Records two signals, opens the image, and lists it: the times, and one loaded signal. */
+#include "wejumo.h"
+
+#include <stdio.h>
+#include <string.h>
+
+enum { LIMIT = 4, SIGNALS = 2, WORK = 256, IMAGE = 256, ENTRIES = 16 };
+
+/* All that a recording needs, lent to each call. */
+static struct {
+  wejumo_state state;
+  uint64_t records[SIGNALS];
+  uint64_t times[LIMIT];
+  uint8_t work[WORK];
+  uint8_t image[IMAGE];
+} rec = {.records = {1, 4}}; /* widths */
+
+/* Keeps the state; every answer is printed. */
+static uint32_t keep(const char *call, wejumo_outcome done) {
+  rec.state = done.state;
+  printf("%s: answer %u value %u\n", call, done.answer, done.value);
+  return done.value;
+}
+
+static void at(uint64_t time) {
+  keep("time", wejumo_time_change(rec.state, rec.records, SIGNALS, rec.times, LIMIT, rec.work, WORK, rec.image, IMAGE, time));
+}
+
+static void change(uint32_t signal, const char *text) {
+  keep("change", wejumo_vcd_value_change(rec.state, rec.records, SIGNALS, rec.times, LIMIT, rec.work, WORK, rec.image, IMAGE,
+                                         signal, (const uint8_t *)text, strlen(text)));
+}
+
+static uint32_t record(void) {
+  keep("start", wejumo_start(rec.state, LIMIT, SIGNALS, rec.records, SIGNALS, rec.times, LIMIT, rec.image, IMAGE));
+  at(10);
+  change(0, "1");
+  change(1, "b1x");
+  at(20);
+  change(1, "b0001");
+  return keep("finish", wejumo_finish(rec.state, rec.records, SIGNALS, rec.times, LIMIT, rec.work, WORK, rec.image, IMAGE));
+}
+
+/* An image that was opened. */
+static void list_times(const uint8_t *image, size_t length) {
+  uint64_t times[ENTRIES];
+  wejumo_table_answer table = wejumo_opened_table(image, length, times, ENTRIES);
+  if (table.answer != WEJUMO_TABLE) {
+    printf("refused %u\n", table.value);
+    return;
+  }
+  for (uint32_t i = 0; i < table.value; i++) {
+    printf("time %u %llu\n", i, (unsigned long long)times[i]);
+  }
+}
+
+static void list_signal(const uint8_t *image, size_t length, uint32_t signal) {
+  uint32_t index[ENTRIES];
+  uint8_t bytes[ENTRIES * 4];
+  uint8_t symbols[4];
+  memset(bytes, 0, sizeof bytes);
+  memset(index, 0, sizeof index);
+  memset(symbols, 0, sizeof symbols);
+  uint32_t kind = wejumo_opened_kind(image, length, signal);
+  wejumo_load_answer loaded = wejumo_opened_load(image, length, signal, index, ENTRIES, bytes, sizeof bytes);
+  if (loaded.answer != WEJUMO_LOADED || kind > sizeof symbols) {
+    printf("signal %u: refused %u\n", signal, loaded.value);
+    return;
+  }
+  printf("signal %u width %u class %u entries %u\n", signal, kind, loaded.signal_class, loaded.value);
+  size_t step = wejumo_entry_length(kind, loaded.signal_class);
+  for (uint32_t i = 0; i < loaded.value; i++) {
+    wejumo_entry_answer entry = wejumo_entry_value(bytes + i * step, step, kind, loaded.signal_class, symbols, sizeof symbols);
+    printf("%u ", index[i]);
+    for (uint32_t k = 0; entry.answer == WEJUMO_ENTRY && k < kind; k++) {
+      putchar("01xzhuwl-"[symbols[k]]);
+    }
+    printf(" class %u\n", entry.content.value_class);
+  }
+}
+
+int main(void) {
+  uint32_t total = record();
+  for (uint32_t i = 0; i < total; i++) {
+    printf("%02X", rec.image[i]);
+  }
+  printf("\n");
+  if (!wejumo_open(rec.image, total)) {
+    printf("no image\n");
+    return 1;
+  }
+  printf("signals %u blocks %u\n", wejumo_opened_signals(rec.image, total), wejumo_opened_blocks(rec.image, total));
+  list_times(rec.image, total);
+  list_signal(rec.image, total, 1);
+  wejumo_part part = wejumo_opened_stream(rec.image, total, 0, 1);
+  printf("stream of signal 1: %u bytes from %u\n", (unsigned)part.length, (unsigned)part.from);
+  uint8_t symbols[4] = {0};
+  wejumo_cursor_answer found = wejumo_opened_cursor(rec.image, total, 1, 15, symbols, sizeof symbols);
+  printf("at 15: answer %u entry %u time %llu form %u\n", found.answer, found.value, (unsigned long long)found.time, found.content.form);
+  return 0;
+}

@@ -1,0 +1,320 @@
+//! One recording on all sides: the Rust, the wave memory, document 01 read a second time, and the history of the calls.
+
+use crate::history::{History, Load};
+use crate::memory::{Answer, BYTE, Memory, NUMBER, Recording, TIME, difference, step_line};
+use crate::ours::{self, Source};
+use crate::paper;
+use crate::random::Random;
+use wellen::oracle::whole::{ABSENT, REAL, Step, Value, Whole, whole};
+
+/// What was compared.
+#[derive(Default)]
+pub struct Tally {
+    pub recordings: u64,
+    pub several_blocks: u64,
+    pub calls: u64,
+    pub blocks: u64,
+    pub signals: u64,
+    pub entries: u64,
+    pub cursors: u64,
+    pub reader_refusals: u64,
+}
+
+pub type Compared = Result<(), String>;
+
+pub fn agree<T: PartialEq + std::fmt::Debug>(what: &str, ours: T, other: T) -> Compared {
+    if ours == other {
+        return Ok(());
+    }
+    Err(format!("{what}: {ours:?} and {other:?}"))
+}
+
+pub fn none(what: &str, difference: Option<String>) -> Compared {
+    difference.map_or(Ok(()), |found| Err(format!("{what}: {found}")))
+}
+
+/// How much of the work and of the image buffer the calls take.
+fn needs(r: &Recording) -> Option<(usize, usize)> {
+    let widest = r.kinds.iter().filter(|kind| **kind <= paper::WIDTH_LIMIT).max();
+    let change = 32 + *widest.unwrap_or(&0) as usize / 2;
+    let work = change * r.steps.len();
+    let image = 16 + 4 * r.kinds.len() + (40 + 5 * r.kinds.len() + change) * r.steps.len();
+    let mut m = Memory::fresh(&r.kinds, r.limit as usize, work, image);
+    paper::start(&mut m, r.limit.into(), r.kinds.len() as u32).ok()?;
+    let mut most = 0;
+    for step in &r.steps {
+        paper::step(&mut m, step).ok()?;
+        most = most.max(m.state.work as usize);
+    }
+    Some((most, m.state.image as usize))
+}
+
+/// Makes one call on our memory and on document 01's.
+fn both(m: &mut Memory, other: &mut Memory, step: &Step) -> Result<Answer, String> {
+    let answer = ours::step(m, step);
+    let said = paper::step(other, step).unwrap_or_else(|turned| Answer::Refused(turned.number));
+    agree("answer of ours and of document 01", answer, said)?;
+    Ok(answer)
+}
+
+/// Makes all calls on ours, holding each answer and the memory after each call against document 01, and each answer against the
+/// history. The memory is compared after every `every`-th call, and at the end.
+fn made(r: &Recording, mut m: Memory, every: usize) -> Result<(Memory, Vec<Answer>, History), String> {
+    let mut other = m.clone();
+    let (limit, signals) = (u32::from(r.limit), r.kinds.len() as u32);
+    agree("start", ours::start(&mut m, limit, signals), Answer::Started)?;
+    paper::start(&mut other, limit, signals).map_err(|_| "document 01 refuses the start")?;
+    let mut history = History::new(&r.kinds);
+    let mut answers = Vec::new();
+    for (number, step) in r.steps.iter().enumerate() {
+        let at = || format!("call {} ({:.60})", number + 1, step_line(step));
+        let answer = both(&mut m, &mut other, step).map_err(|e| format!("{}: {e}", at()))?;
+        if let Some(told) = history.tell(step, answer.refused()) {
+            agree("answer of ours and of the history", answer, told).map_err(|e| format!("{}: {e}", at()))?;
+        }
+        if number % every == 0 || number + 1 == r.steps.len() {
+            none("memory of ours and of document 01", m.difference(&other)).map_err(|e| format!("{}: {e}", at()))?;
+        }
+        answers.push(answer);
+    }
+    agree("skipped count", m.state.skipped, history.count)?;
+    Ok((m, answers, history))
+}
+
+/// The table, with more and with less lent than needed.
+fn table(source: Source, expected: &[u64]) -> Compared {
+    let mut out = vec![TIME; expected.len() + 1];
+    agree("table length", source.table(&mut out), Ok(expected.len() as u32))?;
+    agree("time past the table", out.pop(), Some(TIME))?;
+    none("table of ours and of the history", difference("time", &out, expected))?;
+    if let Some(short) = expected.len().checked_sub(1) {
+        let mut out = vec![TIME; short];
+        agree("table in a short output", source.table(&mut out), Err(9))?;
+        agree("short output kept", out, vec![TIME; short])?;
+    }
+    Ok(())
+}
+
+/// A signal's load, with more and with less lent than needed.
+fn load(source: Source, signal: usize, expected: &Load) -> Compared {
+    let (count, size) = (expected.indices.len(), expected.bytes.len());
+    let (mut index, mut bytes) = (vec![NUMBER; count + 1], vec![BYTE; size + 1]);
+    let answer = source.load(signal as u32, &mut index, &mut bytes);
+    agree("entries and class", answer, Ok((count as u32, expected.class)))?;
+    agree("index past the entries", index.pop(), Some(NUMBER))?;
+    agree("byte past the entries", bytes.pop(), Some(BYTE))?;
+    none(
+        "indices of ours and of the history",
+        difference("index", &index, &expected.indices),
+    )?;
+    none(
+        "entries of ours and of the history",
+        difference("byte", &bytes, &expected.bytes),
+    )?;
+    for (fewer, less) in [(1, 0), (0, 1)] {
+        let (Some(c), Some(s)) = (count.checked_sub(fewer), size.checked_sub(less)) else {
+            continue;
+        };
+        let (mut index, mut bytes) = (vec![NUMBER; c], vec![BYTE; s]);
+        let answer = source.load(signal as u32, &mut index, &mut bytes);
+        agree("load in a short output", answer, Err(9))?;
+        agree("short outputs kept", (index, bytes), (vec![NUMBER; c], vec![BYTE; s]))?;
+    }
+    Ok(())
+}
+
+fn room_for(kind: u32) -> usize {
+    if kind == REAL { 0 } else { kind as usize }
+}
+
+/// Each loaded entry by its bytes.
+fn entries(signal: usize, kind: u32, load: &Load, history: &History) -> Compared {
+    let length = ours::entry_length(kind, load.class);
+    for (number, change) in history.kept(signal).iter().enumerate() {
+        let bytes = &load.bytes[number * length..(number + 1) * length];
+        let mut out = vec![BYTE; room_for(kind)];
+        let value = ours::entry_value(bytes, kind, load.class, &mut out);
+        agree("entry's value", value, Ok(Some(change.content.clone())))?;
+    }
+    Ok(())
+}
+
+/// The cursor at times of the table and beside them.
+fn cursor(source: Source, signal: usize, kind: u32, history: &History, random: &mut Random) -> Compared {
+    let room = room_for(kind);
+    for _ in 0..3 {
+        let near = match history.times.len() {
+            0 => random.next(),
+            n => history.times[random.below(n)],
+        };
+        let t = random.of(&[near, near.saturating_sub(1), near.saturating_add(1), 0, u64::MAX]);
+        let mut out = vec![BYTE; room + 1];
+        let found = source.cursor(kind, signal as u32, t, &mut out);
+        agree("cursor", &found, &Ok(history.cursor(signal, t)))?;
+        let written = if matches!(found, Ok(Some(_))) { room } else { 0 };
+        agree(
+            "symbols past the width",
+            &out[written..],
+            &vec![BYTE; room + 1 - written],
+        )?;
+    }
+    if room > 0 {
+        let mut out = vec![BYTE; room - 1];
+        agree(
+            "cursor in a short output",
+            source.cursor(kind, signal as u32, 0, &mut out),
+            Err(9),
+        )?;
+        agree("short output kept", out, vec![BYTE; room - 1])?;
+    }
+    Ok(())
+}
+
+/// Signals that are absent or not there, with nothing lent: 4.
+fn strangers(source: Source, kinds: &[u32]) -> Result<u64, String> {
+    let absent = looked_at(kinds).into_iter().filter(|signal| kinds[*signal] == ABSENT);
+    let mut count = 0;
+    for signal in absent.chain([kinds.len(), u32::MAX as usize]) {
+        agree(
+            "load of no signal",
+            source.load(signal as u32, &mut [], &mut []),
+            Err(4),
+        )?;
+        agree(
+            "cursor of no signal",
+            source.cursor(0, signal as u32, 0, &mut []),
+            Err(4),
+        )?;
+        count += 2;
+    }
+    Ok(count)
+}
+
+/// All signals, or of very many some: each question opens the image anew.
+fn looked_at(kinds: &[u32]) -> Vec<usize> {
+    let chosen = |signal: &usize| kinds.len() <= 64 || signal % 8191 == 0 || signal + 1 == kinds.len();
+    (0..kinds.len()).filter(chosen).collect()
+}
+
+/// All that the reader shows of an image, held against the history.
+pub fn read(image: &[u8], kinds: &[u32], history: &History, random: &mut Random, tally: &mut Tally) -> Compared {
+    agree("opener", ours::open(image), true)?;
+    for source in ours::sources(image) {
+        table(source, &history.times)?;
+        tally.reader_refusals += 1 + strangers(source, kinds)?;
+    }
+    for signal in looked_at(kinds).into_iter().filter(|signal| kinds[*signal] != ABSENT) {
+        let (kind, expected) = (kinds[signal], history.load(signal));
+        let at = |e| format!("signal {signal}: {e}");
+        for source in ours::sources(image) {
+            load(source, signal, &expected).map_err(at)?;
+            cursor(source, signal, kind, history, random).map_err(at)?;
+            tally.cursors += 3;
+            tally.reader_refusals += 2;
+        }
+        entries(signal, kind, &expected, history).map_err(at)?;
+        tally.signals += 1;
+        tally.entries += expected.indices.len() as u64;
+    }
+    Ok(())
+}
+
+/// What the Rust made and loaded, held against the image that ours left and the history that ours loaded as.
+fn rust(rust: &Whole, image: &[u8], kinds: &[u32], history: &History) -> Compared {
+    none(
+        "image of ours and of the Rust",
+        difference("image byte", image, &rust.image),
+    )?;
+    none("table and the Rust's", difference("time", &history.times, &rust.table))?;
+    for (block, streams) in rust.streams.iter().enumerate() {
+        for signal in looked_at(kinds) {
+            for source in ours::sources(image) {
+                let ours = source.stream(block as u32, signal as u32);
+                none(
+                    &format!("stream {block} {signal}"),
+                    difference("byte", ours, &streams[signal]),
+                )?;
+            }
+        }
+    }
+    let past = rust.streams.len() as u32;
+    for source in ours::sources(image) {
+        agree("stream past the blocks", source.stream(past, 0).len(), 0)?;
+        agree("stream past the signals", source.stream(0, kinds.len() as u32).len(), 0)?;
+    }
+    for signal in 0..kinds.len() {
+        let Some(loaded) = &rust.loads[signal] else { continue };
+        let expected = history.load(signal);
+        let name = |what: &str| format!("signal {signal}: {what} and the Rust's");
+        agree(&name("class"), expected.class, loaded.class)?;
+        none(
+            &name("indices"),
+            difference("index", &expected.indices, &loaded.indices),
+        )?;
+        none(&name("entries"), difference("byte", &expected.bytes, &loaded.bytes))?;
+        let values: Vec<String> = history.kept(signal).iter().map(|c| c.content.word()).collect();
+        none(&name("values"), difference("value", &values, &loaded.values))?;
+    }
+    Ok(())
+}
+
+/// The Rust has no claim above 2 and no signal 2^32 - 1; without a refusal these come only in a skip.
+fn askable(step: &Step) -> bool {
+    !matches!(step, Step::Change(u32::MAX, _) | Step::Change(_, Value::Raw(3.., _)))
+}
+
+/// A recording whose calls may be refused, on lent memory: the Rust is given the calls that are not. Answers the image, if there is one.
+pub fn on_memory(
+    r: &Recording,
+    m: Memory,
+    every: usize,
+    random: &mut Random,
+    tally: &mut Tally,
+) -> Result<Option<Vec<u8>>, String> {
+    let (m, answers, history) = made(r, m, every)?;
+    tally.calls += r.steps.len() as u64;
+    let Some(Answer::Finished(total)) = answers.iter().find(|a| matches!(a, Answer::Finished(_))) else {
+        return Ok(None);
+    };
+    let image = &m.image[..*total as usize];
+    let asked = |(step, answer): &(&Step, &Answer)| !answer.refused() && askable(step);
+    let given = || r.steps.iter().zip(&answers).filter(asked);
+    let steps: Vec<Step> = given().map(|(step, _)| step.clone()).collect();
+    let made = whole(r.limit, &r.kinds, &steps).ok_or("the Rust panics")?;
+    let changes = given().filter(|(step, _)| **step != Step::Finish);
+    let words: Vec<&str> = changes.map(|(_, answer)| answer.word()).collect();
+    none(
+        "answers of ours and of the Rust",
+        difference("answer", &words, &made.answers),
+    )?;
+    read(image, &r.kinds, &history, random, tally)?;
+    rust(&made, image, &r.kinds, &history)?;
+    tally.recordings += 1;
+    tally.blocks += made.streams.len() as u64;
+    tally.several_blocks += u64::from(made.streams.len() > 1);
+    Ok(Some(image.to_vec()))
+}
+
+/// A recording without a refusal. What is lent is often exactly what is needed. Answers the image.
+pub fn recording(r: &Recording, every: usize, random: &mut Random, tally: &mut Tally) -> Result<Vec<u8>, String> {
+    let (work, image) = needs(r).ok_or("document 01 refuses a call")?;
+    let times = r.limit as usize + random.of(&[0, 0, 1, 3]);
+    let (work, image) = (work + random.of(&[0, 0, 1, 9]), image + random.of(&[0, 0, 1, 9]));
+    let m = Memory::fresh(&r.kinds, times, work, image);
+    on_memory(r, m, every, random, tally)?.ok_or("no finish".to_string())
+}
+
+/// Leaves out calls while the two sides still differ.
+pub fn smaller(r: &Recording, differs: impl Fn(&Recording) -> bool) -> Recording {
+    let mut least = r.clone();
+    let mut at = least.steps.len();
+    while at > 0 {
+        at -= 1;
+        let mut fewer = least.clone();
+        fewer.steps.remove(at);
+        if needs(&fewer).is_some() && fewer.steps.last() == Some(&Step::Finish) && differs(&fewer) {
+            least = fewer;
+        }
+    }
+    least
+}

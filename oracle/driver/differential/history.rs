@@ -1,0 +1,121 @@
+//! Document 01, 'History': what a list of calls says, told of the calls and of which were refused, never of the state.
+
+use crate::memory::Answer;
+use crate::paper::decode;
+use crate::value::{Content, entry_bytes};
+use wellen::oracle::whole::Step;
+
+pub struct Change {
+    pub place: u32,
+    pub content: Content,
+    /// Its class, or the claim of a raw value if that is larger.
+    class: u32,
+}
+
+pub struct History {
+    kinds: Vec<u32>,
+    pub times: Vec<u64>,
+    changes: Vec<Vec<Change>>,
+    skip: bool,
+    pub count: u32,
+}
+
+/// What loading a signal answers and writes.
+#[derive(Debug, PartialEq)]
+pub struct Load {
+    pub class: u32,
+    pub indices: Vec<u32>,
+    pub bytes: Vec<u8>,
+}
+
+impl History {
+    pub fn new(kinds: &[u32]) -> Self {
+        History {
+            kinds: kinds.to_vec(),
+            times: Vec::new(),
+            changes: kinds.iter().map(|_| Vec::new()).collect(),
+            skip: false,
+            count: 0,
+        }
+    }
+
+    /// The answer, where it is no refusal and no finish.
+    pub fn tell(&mut self, step: &Step, refused: bool) -> Option<Answer> {
+        if refused {
+            return None;
+        }
+        match step {
+            Step::Finish => None,
+            Step::Time(time) => Some(self.time(*time)),
+            Step::Change(..) if self.skip => {
+                self.count = self.count.saturating_add(1);
+                Some(Answer::Skipped)
+            }
+            Step::Change(signal, value) => {
+                let kind = self.kinds[*signal as usize];
+                let Ok(Some((content, class))) = decode(kind, value) else {
+                    unreachable!("a change that is not refused has a content")
+                };
+                self.changes[*signal as usize].push(Change {
+                    place: self.times.len() as u32 - 1,
+                    content,
+                    class,
+                });
+                Some(Answer::Recorded)
+            }
+        }
+    }
+
+    fn time(&mut self, time: u64) -> Answer {
+        match self.times.last() {
+            Some(last) if time == *last => Answer::Same,
+            Some(last) if time < *last => {
+                self.skip = true;
+                Answer::Back
+            }
+            _ => {
+                self.times.push(time);
+                self.skip = false;
+                Answer::Taken
+            }
+        }
+    }
+
+    /// "of events all; of others the first and each differing in content from the one before it in the list".
+    pub fn kept(&self, signal: usize) -> Vec<&Change> {
+        let list = &self.changes[signal];
+        let keeps =
+            |at: usize| at == 0 || list[at].content == Content::Event || list[at].content != list[at - 1].content;
+        (0..list.len()).filter(|at| keeps(*at)).map(|at| &list[at]).collect()
+    }
+
+    /// "changes not kept included; Nine if it is empty".
+    pub fn class(&self, signal: usize) -> u32 {
+        self.changes[signal]
+            .iter()
+            .map(|change| change.class)
+            .max()
+            .unwrap_or(2)
+    }
+
+    pub fn load(&self, signal: usize) -> Load {
+        let (kept, class) = (self.kept(signal), self.class(signal));
+        Load {
+            class,
+            indices: kept.iter().map(|change| change.place).collect(),
+            bytes: kept
+                .iter()
+                .flat_map(|change| entry_bytes(&change.content, class))
+                .collect(),
+        }
+    }
+
+    /// 'Loaded signal', cursor: "the last entry with time at or before t; before the first, entry 0".
+    pub fn cursor(&self, signal: usize, t: u64) -> Option<(u32, u64, Content)> {
+        let kept = self.kept(signal);
+        let time = |at: usize| self.times[kept[at].place as usize];
+        let at = (0..kept.len()).rev().find(|at| time(*at) <= t).unwrap_or(0);
+        let found = kept.get(at)?;
+        Some((at as u32, time(at), found.content.clone()))
+    }
+}

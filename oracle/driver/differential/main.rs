@@ -1,0 +1,265 @@
+//! The wave memory and the real Rust on the same calls. oracle/README.md says what is compared.
+
+mod compare;
+mod damaged;
+mod generate;
+mod history;
+mod limits;
+mod memory;
+mod opener;
+mod ours;
+mod paper;
+mod random;
+mod refusals;
+mod value;
+mod values;
+
+use compare::{Compared, Tally};
+use damaged::Damaged;
+use memory::Recording;
+use random::Random;
+use refusals::Refusals;
+use std::fs::File;
+use std::io::{Read, Write};
+use std::time::Instant;
+use values::Values;
+use wellen::oracle::whole::{Value, quiet, sheets};
+
+/// How much of each group is run.
+struct Size {
+    name: &'static str,
+    /// All texts and bytes of the small widths, not only the shorter ones; an image of the largest length.
+    whole: bool,
+    values: u64,
+    recordings: u64,
+    longs: usize,
+    mixed: u64,
+    altered: u64,
+    damaged: u64,
+}
+
+const SIZES: [Size; 2] = [
+    Size {
+        name: "bounded",
+        whole: false,
+        values: 40_000,
+        recordings: 16_000,
+        longs: 1,
+        mixed: 6_000,
+        altered: 6_000,
+        damaged: 40,
+    },
+    Size {
+        name: "full",
+        whole: true,
+        values: 200_000,
+        recordings: 100_000,
+        longs: 20,
+        mixed: 30_000,
+        altered: 60_000,
+        damaged: 400,
+    },
+];
+
+struct Run {
+    out: File,
+    begun: Instant,
+    seed: u64,
+    values: Values,
+    tally: Tally,
+    refusals: Refusals,
+    damaged: Damaged,
+}
+
+impl Run {
+    fn new(out: File, seed: u64) -> Self {
+        Run {
+            out,
+            begun: Instant::now(),
+            seed,
+            values: Values::default(),
+            tally: Tally::default(),
+            refusals: Refusals::new(),
+            damaged: Damaged::default(),
+        }
+    }
+
+    fn say(&mut self, line: &str) {
+        writeln!(self.out, "{line}").unwrap();
+    }
+
+    fn value(&mut self, kind: u32, index: u32, value: &Value) -> Compared {
+        values::value(kind, index, value, &mut self.values).map_err(|e| {
+            let r = values::as_recording(kind, index, value);
+            format!("{}: {e}\n{r}", values::shown(kind, index, value))
+        })
+    }
+
+    fn recording(&mut self, r: &Recording, random: &mut Random) -> Compared {
+        let result = compare::recording(r, 1, random, &mut self.tally);
+        result.map(|_| ()).map_err(|e| {
+            let differs = |r: &Recording| {
+                let mut random = Random::new("smaller", 0, 0);
+                compare::recording(r, 1, &mut random, &mut Tally::default()).is_err()
+            };
+            format!("{e}\n{}", compare::smaller(r, differs))
+        })
+    }
+
+    /// One item of a group that has items.
+    fn item(&mut self, group: &str, item: u64) -> Compared {
+        let random = &mut Random::new(group, self.seed, item);
+        match group {
+            "values" => {
+                let (kind, index, value) = values::random_value(random);
+                self.value(kind, index, &value)
+            }
+            "recordings" => {
+                let r = generate::recording(random);
+                self.recording(&r, random)
+            }
+            "mixed" => refusals::mixed(random, &mut self.tally),
+            "altered" => refusals::altered(random, &mut self.refusals),
+            "damaged" => damaged::item(random, &mut self.tally, &mut self.damaged),
+            "limits" => limits::recordings(random, item as usize, &mut self.tally),
+            _ => Err(format!("no group {group}")),
+        }
+    }
+
+    fn items(&mut self, group: &str, count: u64) -> Compared {
+        (0..count).try_for_each(|item| self.one(group, item))
+    }
+
+    fn one(&mut self, group: &str, item: u64) -> Compared {
+        let seed = self.seed;
+        self.item(group, item).map_err(|e| {
+            format!(
+                "MISMATCH in {group}, seed {seed}, item {item}\nreplay: differential replay {group} {seed} {item}\n{e}"
+            )
+        })
+    }
+
+    /// Says what has passed, with the seconds since the beginning.
+    fn passed(&mut self, what: String) {
+        let seconds = self.begun.elapsed().as_secs_f64();
+        self.say(&format!("{seconds:5.1} s {what}"));
+    }
+
+    fn all(&mut self, size: &Size) -> Compared {
+        values::exhaustive(size.whole, &mut |kind, index, value| self.value(kind, index, value))?;
+        self.passed(format!("single values, exhaustively: {}", self.values.asked()));
+        self.items("values", size.values)?;
+        let (asked, bad) = (self.values.asked(), self.values.bad);
+        self.passed(format!("single values: {asked} ({bad} bad)"));
+        self.items("recordings", size.recordings)?;
+        self.passed(self.recorded());
+        self.items("mixed", size.mixed)?;
+        self.passed(format!("with refused calls between: {}", self.recorded()));
+        self.one("limits", size.longs as u64)?;
+        self.passed(format!("with the limits: {}", self.recorded()));
+        self.items("altered", size.altered)?;
+        let (calls, refused) = (self.refusals.calls, self.refusals.refused);
+        self.passed(format!("calls on states altered and not: {calls}, {refused} refused"));
+        self.fixed(size.whole)?;
+        self.passed("image limit on mapped memory, S of 65,536, skipped count at its top".to_string());
+        self.items("damaged", size.damaged)?;
+        let Damaged { images, accepted } = self.damaged;
+        self.passed(format!(
+            "damaged images: {images}, {accepted} accepted, loaded and recorded again"
+        ));
+        self.conditions()
+    }
+
+    fn fixed(&mut self, whole: bool) -> Compared {
+        refusals::signals(&mut self.refusals)?;
+        limits::skipped_count()?;
+        limits::image_limit(&mut self.refusals)?;
+        limits::last_byte(&mut self.refusals)?;
+        limits::largest_image(whole)
+    }
+
+    fn recorded(&self) -> String {
+        let t = &self.tally;
+        format!(
+            "recordings: {} ({} of several blocks), {} calls, {} blocks, {} signals loaded, {} entries, {} cursors, {} refusals of the reader",
+            t.recordings, t.several_blocks, t.calls, t.blocks, t.signals, t.entries, t.cursors, t.reader_refusals
+        )
+    }
+
+    /// Every condition of document 01 must have been the only one of a refusal.
+    fn conditions(&mut self) -> Compared {
+        let lines: Vec<String> = self
+            .refusals
+            .alone
+            .iter()
+            .map(|(name, count)| format!("    {count:8} {name}"))
+            .collect();
+        self.say("refusals by the one condition that held:");
+        lines.iter().for_each(|line| self.say(line));
+        match self.refusals.alone.iter().find(|(_, count)| **count == 0) {
+            Some((name, _)) => Err(format!("never met alone: {name}")),
+            None => Ok(()),
+        }
+    }
+
+    fn calls(&mut self, text: &str) -> Compared {
+        let sheets = sheets(text).ok_or("a line is no call")?;
+        for (limit, kinds, steps) in sheets {
+            let random = &mut Random::new("calls", self.seed, 0);
+            self.recording(&Recording { limit, kinds, steps }, random)?;
+        }
+        self.say(&self.recorded());
+        Ok(())
+    }
+}
+
+fn number(word: &str) -> u64 {
+    word.parse().expect("a number")
+}
+
+fn asked(run: &mut Run, words: &[&str]) -> Compared {
+    match words {
+        ["replay", group, seed, item, ..] => {
+            run.seed = number(seed);
+            run.one(group, number(item))
+        }
+        ["calls", ..] => {
+            let mut text = String::new();
+            std::io::stdin().read_to_string(&mut text).unwrap();
+            run.calls(&text)
+        }
+        [name, rest @ ..] if SIZES.iter().any(|size| size.name == *name) => {
+            run.seed = rest.first().map_or(1, |seed| number(seed));
+            run.say(&format!("differential runs, {name}, seed {}", run.seed));
+            run.all(SIZES.iter().find(|size| size.name == *name).unwrap())
+        }
+        _ => {
+            let forms = [
+                "bounded|full [SEED]",
+                "replay GROUP SEED ITEM [whole]",
+                "calls [whole] <CALLS",
+            ];
+            forms.iter().for_each(|form| eprintln!("usage: differential {form}"));
+            std::process::exit(2);
+        }
+    }
+}
+
+fn main() {
+    let words: Vec<String> = std::env::args().skip(1).collect();
+    let words: Vec<&str> = words.iter().map(String::as_str).collect();
+    let mut run = Run::new(quiet(), 1);
+    let Err(mismatch) = asked(&mut run, &words) else {
+        return run.say("differential runs: no mismatch");
+    };
+    // a wide value's line is long
+    let shown = if words.last() == Some(&"whole") {
+        usize::MAX
+    } else {
+        200
+    };
+    let cut = |line: &str| line.chars().take(shown).collect::<String>();
+    mismatch.lines().for_each(|line| run.say(&cut(line)));
+    run.say("differential runs: MISMATCH");
+    std::process::exit(1);
+}

@@ -1,0 +1,185 @@
+//! Single values and whole recordings as functions: what the Rust makes of the calls it is given.
+
+use super::recordings::{Call, Kind, call, change, finish, hierarchy, shown_values, start, time};
+use super::*;
+
+/// A value that a change gives.
+#[derive(Clone, Debug, PartialEq)]
+pub enum Value {
+    Vcd(Vec<u8>),
+    /// The claimed class and the bytes.
+    Raw(u32, Vec<u8>),
+    /// The 64 bits.
+    Real(u64),
+}
+
+#[derive(Clone, Debug, PartialEq)]
+pub enum Step {
+    Time(u64),
+    Change(u32, Value),
+    Finish,
+}
+
+pub const REAL: u32 = 0xffff_fffe;
+pub const ABSENT: u32 = 0xffff_ffff;
+
+fn kind_of(number: u32) -> Kind {
+    match number {
+        ABSENT => None,
+        REAL => Some(SignalEncoding::Real),
+        width => Some(SignalEncoding::BitVector(width)),
+    }
+}
+
+/// A claim above 2 has no value in the Rust.
+fn change_of(value: &Value) -> Option<Change> {
+    Some(match value {
+        Value::Vcd(text) => Change::Vcd(text.clone()),
+        Value::Raw(claim, bytes) => {
+            let states = [States::Two, States::Four, States::Nine];
+            Change::Raw(*states.get(*claim as usize)?, bytes.clone())
+        }
+        Value::Real(bits) => Change::Real(f64::from_bits(*bits)),
+    })
+}
+
+/// The answer to one change on a fresh signal: class, stream, and what the loader shows. Asked in two ways, which must agree.
+pub fn single(kind: u32, index: u32, value: &Value) -> Option<(u8, Vec<u8>, String)> {
+    let question = Question {
+        tpe: kind_of(kind)?,
+        time_idx: index,
+        change: change_of(value)?,
+    };
+    let answer = ask_signal_encoder(&question);
+    assert_eq!(answer, ask_encoder(&question), "two ways");
+    answer.map(|a| (a.max_states as u8, a.stream, a.shown))
+}
+
+/// What the Rust loads of a signal that is not absent.
+#[derive(Debug, PartialEq)]
+pub struct Loaded {
+    pub class: u32,
+    pub indices: Vec<u32>,
+    pub bytes: Vec<u8>,
+    pub values: Vec<String>,
+}
+
+/// What the Rust makes of a recording.
+pub struct Whole {
+    /// One for each time or change.
+    pub answers: Vec<&'static str>,
+    /// The Rust's blocks in our layout.
+    pub image: Vec<u8>,
+    /// By block and signal.
+    pub streams: Vec<Vec<Vec<u8>>>,
+    pub table: Vec<u64>,
+    pub loads: Vec<Option<Loaded>>,
+}
+
+fn streams(block: &Block) -> Vec<Vec<u8>> {
+    let stream = |signal| {
+        let id = SignalRef::from_index(signal).unwrap();
+        let Some((at, length)) = block.get_offset_and_length(id) else {
+            return Vec::new();
+        };
+        let mut data = &block.data[at..at + length];
+        leb128::read::unsigned(&mut data).unwrap();
+        data.to_vec()
+    };
+    (0..block.offsets.len()).map(stream).collect()
+}
+
+fn load(reader: &Reader, id: SignalRef, signal: &Signal) -> Loaded {
+    let class = reader.collect_signal_meta_data(id).max_states;
+    assert!(signal.max_states().is_none_or(|own| own == class));
+    Loaded {
+        class: class as u32,
+        indices: signal.time_indices().to_vec(),
+        bytes: entry_bytes(signal).to_vec(),
+        values: shown_values(signal),
+    }
+}
+
+/// What `finish` answers is asked for all signals that are not absent.
+fn loads(mut source: SignalSource, reader: &Reader, kinds: &[Kind]) -> Vec<Option<Loaded>> {
+    let present = (0..kinds.len()).filter(|signal| kinds[*signal].is_some());
+    let ids: Vec<SignalRef> = present
+        .map(|signal| SignalRef::from_index(signal).unwrap())
+        .collect();
+    let signals = source.load_signals(&ids, &hierarchy(kinds), false);
+    let mut out: Vec<Option<Loaded>> = kinds.iter().map(|_| None).collect();
+    for (id, signal) in ids.iter().zip(&signals) {
+        out[id.index()] = Some(load(reader, *id, signal));
+    }
+    out
+}
+
+fn run(limit: u16, kinds: &[u32], steps: &[Step]) -> Whole {
+    let parts: Vec<Kind> = kinds.iter().map(|kind| kind_of(*kind)).collect();
+    let mut encoder = start(limit, &parts);
+    let mut answers = Vec::new();
+    for step in steps {
+        answers.push(match step {
+            Step::Time(now) => time(&mut encoder, *now),
+            Step::Change(signal, value) => {
+                let value = change_of(value).expect("a claim of 0, 1 or 2");
+                change(&mut encoder, *signal as usize, &value)
+            }
+            Step::Finish => continue,
+        });
+    }
+    let reader = Reader {
+        blocks: finish(encoder.clone()),
+    };
+    let (source, table) = encoder.finish();
+    Whole {
+        answers,
+        image: image(kinds, &reader.blocks),
+        streams: reader.blocks.iter().map(streams).collect(),
+        table,
+        loads: loads(source, &reader, &parts),
+    }
+}
+
+/// Nothing if the Rust panics.
+pub fn whole(limit: u16, kinds: &[u32], steps: &[Step]) -> Option<Whole> {
+    let mut out = None;
+    (!panics(|| out = Some(run(limit, kinds, steps)))).then(|| out.unwrap())
+}
+
+/// A recording's limit, kinds and calls.
+pub type Sheet = (u16, Vec<u32>, Vec<Step>);
+
+/// The recordings of a text in the form that `oracle recordings` reads.
+pub fn sheets(text: &str) -> Option<Vec<Sheet>> {
+    let mut sheets: Vec<Sheet> = Vec::new();
+    for line in text.lines() {
+        let step = match call(line)? {
+            Call::Start(limit, kinds) => {
+                let numbers = kinds.iter().map(recordings::kind_number).collect();
+                sheets.push((limit, numbers, Vec::new()));
+                continue;
+            }
+            Call::Time(time) => Step::Time(time),
+            Call::Change(signal, Change::Vcd(text)) => {
+                Step::Change(signal as u32, Value::Vcd(text))
+            }
+            Call::Change(signal, Change::Raw(states, bytes)) => {
+                Step::Change(signal as u32, Value::Raw(states as u32, bytes))
+            }
+            Call::Change(signal, Change::Real(real)) => {
+                Step::Change(signal as u32, Value::Real(real.to_bits()))
+            }
+            Call::Finish => Step::Finish,
+        };
+        sheets.last_mut()?.2.push(step);
+    }
+    Some(sheets)
+}
+
+/// Before the first question: panics print nothing, and standard output is kept for the answers.
+pub fn quiet() -> std::fs::File {
+    assert!(cfg!(debug_assertions), "some refusals are debug assertions");
+    install_hook();
+    recordings::answers_only()
+}
