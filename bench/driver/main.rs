@@ -251,7 +251,7 @@ fn tables(only: Option<&str>) {
     for s in &sides {
         let pairs = s.opening(51);
         let (ratio, length) = (pairs.ratio(), s.image.len() as f64);
-        let met = if s.w.kinds[0] >= 64 && s.w.kinds.len() < 1_000 {
+        let met = if (64..REAL).contains(&s.w.kinds[0]) {
             mark(&ratio, 4.0)
         } else {
             ""

@@ -87,5 +87,13 @@ fn leb128_from(s: &[u8], at: usize, left: usize) -> Leb128
 pub fn get_leb128(s: &[u8], at: usize) -> Leb128
     ensures { λ r. ⌜ r ≡ lebAt (now (s .entry)) at ⌝ }
 {
-    leb128_from(s, at, 5)
+    if s.len() <= at {
+        return Leb128::Bad;
+    }
+    // most numbers have one byte: they do without a call
+    let b = wide(s[at]);
+    if b < 128 {
+        return Leb128::Value(b, at + 1);
+    }
+    over(b, leb128_from(s, at + 1, 4))
 }

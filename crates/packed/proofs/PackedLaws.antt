@@ -16,8 +16,10 @@ use lib.Pow.{pow-pos, pow-mono, pow-add, shr-shr, high, low, mod-pow-add, field,
 use Rattle.lists.specs.Choice.{pick}
 use Rattle.lists.specs.Bytes.{Bytes}
 use Rattle.lists.proofs.BytesLaws.{tail-bytes}
-use Rattle.value.specs.Class.{bitsOf, classOf, classOfAll, allSymbols, largestOf}
-use Rattle.value.proofs.ClassLaws.{by-class, class-largest, all-largest}
+use Rattle.value.specs.Class.{bitsOf, classOf, classOfAll, allSymbols, largestOf, minStates}
+use Rattle.value.specs.declared.states.States.the-variants.{Two}
+use Rattle.value.specs.declared.states.MaybeStates.the-variants.{Some}
+use Rattle.value.proofs.ClassLaws.{by-class, class-two, class-largest, all-largest, min-some}
 use Rattle.packed.specs.Packed.{numberOf, digitAt, digits, packedLength, packed, unpacked, topClear}
 
 -- every element is below m (past the end stands 0)
@@ -265,3 +267,16 @@ push-keep b acc x l = rw (pow-next (length l) b) (omega arith)
 -- one byte is written
 pub push-byte : (n x r : ℕ) → x < 256 → r < 2 ^ (n * 8) → digits 8 (suc n) (x * 2 ^ (n * 8) + r) ≡ x ∷ digits 8 n r
 push-byte n x r h k = push 8 n x r h k
+
+largest-below : (m : ℕ) (l : List ℕ) → AllBelow m l → 0 < m → largestOf l < m
+unfolding largestOf
+largest-below m [] h p = p
+largest-below m (x ∷ l) h p = let r = largest-below m l (λ i. h (suc i)) p in let f : x < m = h 0 in omega arith
+
+-- symbols of one bit are of class Two
+pub two-least : (w c : ℕ) (b : List ℕ) → c ≡ 0 → minStates (unpacked w c b) ≡ Some Two
+unfolding unpacked
+two-least w c b e =
+    let l = unpacked w c b in
+    let h : largestOf l < 2 = rw e (largest-below 2 (digits 1 w (numberOf 8 b)) (digits-below 1 w (numberOf 8 b)) (omega arith)) in
+    min-some l (omega arith) ∙ rw (class-two (largestOf l) h) refl

@@ -92,6 +92,10 @@ pub fn find_min_states(bytes: &[u8], width: u32, states: States) -> MaybeStates
     requires { ⌜ packedLength width (classNumber states) ≤ length (now bytes) ⌝ }
     ensures { λ r. ⌜ r ≡ minStates (unpacked width (classNumber states) (now (bytes .entry))) ⌝ }
 {
+    // symbols of one bit are 0 or 1, whatever the bytes hold
+    if states.number() == 0 {
+        return MaybeStates::Some(States::Two);
+    }
     let m = largest(bytes, width, states);
     if 8 < m {
         return MaybeStates::None;

@@ -1,7 +1,7 @@
 -- A byte's symbol is below 9, so that 255 can say "no symbol"; and each symbol has its letter.
 -- Assumes nothing.
-use Prim.Native.Nat.{ℕ, zero, suc, _+_, _≤_, _<_}
-use mathlib.Core.Path.{_≡_, refl, sym, ap}
+use Prim.Native.Nat.{ℕ, zero, suc, _+_, _-_, _≤_, _<_}
+use mathlib.Core.Path.{_≡_, refl, sym, ap, subst}
 use mathlib.Core.Bool.{Bool, true, false}
 use mathlib.Core.List.{List, [], _∷_}
 use mathlib.Core.Option.{Option, some, none}
@@ -53,3 +53,12 @@ unfolding symbolOf letter-right
 letter-symbol x h =
     let e = eqb→eq _ _ (at letter-right letters tt x (omega arith)) in
     some-number (symbolOf (getD letters x 0)) x (sym e) (λ f. omega arith)
+
+-- the letters 0 and 1
+pub digit-number : (b : ℕ) → 48 ≤ b → b ≤ 49 → b - 48 ≡ orNumber 255 (symbolOf b)
+digit-number b h k = subst (λ (x : ℕ). b - 48 ≡ orNumber 255 (symbolOf x)) (omega arith) (from (b - 48) (omega arith))
+  where
+    from : (d : ℕ) → d < 2 → d ≡ orNumber 255 (symbolOf (d + 48))
+    from zero h = unfold symbolOf in refl
+    from (suc zero) h = unfold symbolOf in refl
+    from (suc (suc d)) h = absurd (omega arith)

@@ -270,12 +270,25 @@ const BIT_CHAR_TO_NUM: [u8; 256] = [
     255,
 ];
 
-// The number of the byte's symbol, 255 where it has none.
-pub fn symbol_number(value: u8) -> u8
+fn table_number(value: u8) -> u8
     ensures { λ r. ⌜ r ≡ orNumber 255 (symbolOf value) ⌝ }
 {
     let i = value as usize;
     BIT_CHAR_TO_NUM[i]
+}
+
+// The number of the byte's symbol, 255 where it has none. The table is made anew at each use, so the letters 0 and 1, of which most values
+// are, do without it.
+pub fn symbol_number(value: u8) -> u8
+    ensures { λ r. ⌜ r ≡ orNumber 255 (symbolOf value) ⌝ }
+{
+    if value < b'0' {
+        return table_number(value);
+    }
+    if b'1' < value {
+        return table_number(value);
+    }
+    value - b'0'
 }
 
 pub fn bit_char_to_num(value: u8) -> MaybeBit
