@@ -2,13 +2,13 @@
 use crate::state::StateNumbers;
 use crate::state::state_after;
 use crate::state::state_from;
-use plan::Outcome;
 use flat::changes::raw_value_change;
 use flat::changes::real_change;
 use flat::changes::vcd_value_change;
 use flat::finish::finish;
 use flat::start::start;
 use flat::time::time_change;
+use plan::Outcome;
 use recording::Answer;
 use recording::SignalRef;
 ghost use mathlib.Core.Path.{_≡_};

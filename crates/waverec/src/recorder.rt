@@ -2,7 +2,6 @@
 use crate::answer::print_answer;
 use crate::bench::Bench;
 use crate::bench::with_outcome;
-use plan::Outcome;
 use flat::changes::raw_value_change;
 use flat::changes::real_change;
 use flat::changes::vcd_value_change;
@@ -12,6 +11,7 @@ use flat::time::time_change;
 use line::Command;
 use line::hex::put_hex;
 use line::words::after;
+use plan::Outcome;
 use recording::Encoder;
 use recording::SignalRef;
 use text::before;
