@@ -1,8 +1,9 @@
 /* Wejumo: a signal recorder's wave memory.
  *
- * Value changes become an image, and an image is read back. Every function is proved to do what this header says, for any numbers and any
- * contents of the buffers, in any order of calls. The functions of the last part have one duty more, said there. What is recorded and
- * answered is defined in crates/interface/specs/ and the definitions that it cites; docs/PROMISES.md leads there.
+ * Value changes become an image, and an image is read back. Every function is proved to meet its contract in crates/interface, which this
+ * header retells, for any numbers and any contents of the buffers, in any order of calls. The functions of the last part have one duty
+ * more, said there. What is recorded and answered is defined in crates/interface/specs/ and the definitions that it cites; docs/PROMISES.md
+ * leads there.
  *
  * What the caller owes in every call:
  *  - A buffer is a pointer and the number of its elements. The pointer is not null and is aligned for its type, also where the number is 0.
@@ -80,7 +81,7 @@ extern "C" {
 #define WEJUMO_ALTERED UINT32_C(10)       /* state or memory was altered between calls */
 #define WEJUMO_NO_IMAGE UINT32_C(11)      /* the opener does not accept */
 
-/* A recording between two calls. Before the first start it may be anything, as { 0 }. Flags are off at 0 and on at every other number; a
+/* A recording between two calls. Before the first start it may have any values, as { 0 }. Flags are off at 0 and on at every other number; a
  * call that leaves a flag on hands back its number, and one that sets it hands back 1. */
 typedef struct wejumo_state {
   uint32_t closed;  /* flag */
@@ -173,7 +174,7 @@ wejumo_outcome wejumo_finish(wejumo_state state,
                              const uint8_t *work, size_t work_length,
                              uint8_t *image, size_t image_length);
 
-/* ---- Reading any bytes. Each call but wejumo_entry_value opens first. */
+/* ---- Reading any bytes. Each call on an image opens first. */
 
 /* LOADED with the number of kept entries and the signal's class. */
 typedef struct wejumo_load_answer {
@@ -223,7 +224,7 @@ WEJUMO_ASSERT(offsetof(wejumo_content, form) == 0);
 WEJUMO_ASSERT(offsetof(wejumo_content, value_class) == 4);
 WEJUMO_ASSERT(offsetof(wejumo_content, bits) == 8);
 
-/* FOUND with the entry's number, time and content, or NOTHING: the signal has no entries. All else is 0 where it is not found. */
+/* FOUND with the entry's number, time and content, or NOTHING: the signal has no entries. All else is 0 where it is not found, but for a refusal's number. */
 typedef struct wejumo_cursor_answer {
   uint32_t answer;
   uint32_t value;
@@ -262,7 +263,7 @@ wejumo_load_answer wejumo_load(const uint8_t *image, size_t image_length, uint32
 wejumo_table_answer wejumo_table(const uint8_t *image, size_t image_length,
                                  uint64_t *out, size_t out_length);
 
-/* Where in the image the stream of a signal in a block stands, without its class byte. Of length 0 where the opener refuses, the block or
+/* A place in the image where the bytes of a signal's stream in a block stand, without its class byte. Of length 0 where the opener refuses, the block or
  * the signal does not exist, or it has no changes there. */
 wejumo_part wejumo_stream(const uint8_t *image, size_t image_length, uint32_t block, uint32_t signal);
 
@@ -283,8 +284,9 @@ uint64_t wejumo_sum(const uint8_t *bytes, size_t bytes_length);
 
 /* ---- Reading an image that was opened.
  *
- * One duty more: wejumo_open answered 1 for these bytes, and they are unchanged since. Nothing tests it again: with other bytes these
- * functions may read outside of the buffer. Where the duty is met, load, table, stream and cursor answer as their namesakes above. */
+ * One duty more: wejumo_open answered 1 for these bytes, and they are unchanged since. Nothing tests it again; with other bytes nothing is
+ * promised: these functions may read or write outside of the buffers, or not return. Where the duty is met, load, table, stream and cursor
+ * answer as their namesakes above. */
 
 uint32_t wejumo_opened_signals(const uint8_t *image, size_t image_length);
 uint32_t wejumo_opened_blocks(const uint8_t *image, size_t image_length);

@@ -1,6 +1,6 @@
 //! Safe calls of the wave memory: a recorder over lent buffers, and images.
 //!
-//! Every duty that include/wejumo.h names is met by the types: a Rust slice is not null, aligned and of its length, a `&mut` overlaps
+//! Every duty that include/wejumo.h names, but for the stack, is met by the types: a Rust slice is not null, aligned and of its length, a `&mut` overlaps
 //! nothing, and nothing writes a borrowed slice. What the functions do is proved in crates/interface; nothing is decided here.
 //!
 //! The calls of one thread need the stack that docs/ARCHITECTURE.md names.
@@ -27,10 +27,10 @@ pub enum Kind {
 }
 
 impl Kind {
-    /// Its number, as a record or a head stores it.
+    /// Its number, as a record or a head stores it. Of widths that no start takes, the last two numbers are not used: they are real and absent.
     pub fn number(self) -> u32 {
         match self {
-            Kind::Vector(width) => width,
+            Kind::Vector(width) => width.min(0xFFFF_FFFD),
             Kind::Real => 0xFFFF_FFFE,
             Kind::Absent => 0xFFFF_FFFF,
         }

@@ -179,3 +179,18 @@ fn a_flag_keeps_its_number_or_becomes_one() {
     assert_eq!(recorder.state().skip, 0);
     assert_eq!(recorder.finish().map(|_| recorder.state().closed), Ok(1));
 }
+
+#[test]
+fn no_width_is_taken_for_another_kind() {
+    for width in [65_537, 0xFFFF_FFFD, 0xFFFF_FFFE, 0xFFFF_FFFF] {
+        let (mut records, mut times, mut work, mut image) = ([Kind::Vector(width).record()], [0; 2], [0; 32], [0; 64]);
+        let mut recorder = Recorder::new(&mut records, &mut times, &mut work, &mut image);
+        assert_eq!(recorder.start(2), Err(Refusal(1)));
+    }
+}
+
+#[test]
+fn a_sum_keeps_every_byte() {
+    assert_eq!(sum(&[]), 0);
+    assert_eq!(sum(&[1, 255, 7]), 263);
+}

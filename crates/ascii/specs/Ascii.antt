@@ -24,7 +24,7 @@ unfoldable pub decimalIn : (places n : ℕ) → List ℕ
 decimalIn zero n = []
 decimalIn (suc k) n = pick (ltb n 10) [] (decimalIn k (n / 10)) ++ digitCode (n % 10) ∷ []
 
--- a number of 64 bits has at most 20
+-- a number of 64 bits has at most 20; of a larger one the last 20 are shown
 abbrev pub decimal : ℕ → List ℕ
 decimal n = decimalIn 20 n
 

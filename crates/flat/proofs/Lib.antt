@@ -1,3 +1,4 @@
 pub mod ChangeLaws
 pub mod RecordLaws
+pub mod SameLaws
 pub mod StartLaws

@@ -31,7 +31,7 @@ fn bench_sheet() {
     finish(d, &mut times, &mut work, &mut image);
 }
 
-// B 2, times 1, 2 and 3: the third cuts, and the finish.
+// B 2, times 1, 2 and 3: the third cuts, and the finish. The second signal's top class is not lowered by a cut.
 fn cuts() {
     let mut times = [0u64; 4];
     let mut work = [0u8; 128];
@@ -45,6 +45,7 @@ fn cuts() {
     let d = vcd(d, 1, b"zzzz", &mut times, &mut work, &mut image);
     let d = time(d, 3, &mut times, &mut work, &mut image);
     let d = vcd(d, 0, b"0", &mut times, &mut work, &mut image);
+    let d = vcd(d, 1, b"1010", &mut times, &mut work, &mut image);
     finish(d, &mut times, &mut work, &mut image);
 }
 

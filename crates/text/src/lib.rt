@@ -1,4 +1,4 @@
-// Text in byte slices, for the test programs. Past the end stand zeros, and parts end where the slice does.
+// Text in byte slices, for the programs. Past the end stand zeros, and parts end where the slice does.
 pub mod number;
 
 use libc::STDOUT_FILENO;
