@@ -8,4 +8,4 @@ pub mod finish;
 pub mod raw;
 pub mod start;
 pub mod time;
-pub mod turns;
+mod turns;
