@@ -1,4 +1,4 @@
-// Replays calls that are turned back, each condition at its limits. The Rust cannot be asked: `stdout` was computed by oracle/recorder.py,
+// Replays calls that are refused, each condition at its limits. The Rust cannot be asked: `stdout` was computed by oracle/recorder.py,
 // from document 01.
 fn main() {
     sheet::replay();

@@ -1,5 +1,5 @@
-// The bench room's tool: makes the calls of a sheet on standard input, answers each on a line, and then shows the image. With the
-// argument `image` it writes the image's bytes alone.
+// Makes the calls of a sheet on standard input, answers each on a line, and then shows the image. With the argument `image` it writes
+// the image's bytes alone.
 //
 // What a line says is read by the crate line; the calls are the crate flat's.
 mod answer;
