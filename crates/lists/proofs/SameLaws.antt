@@ -2,7 +2,7 @@
 -- Assumes nothing.
 use Prim.Native.Nat.{ℕ}
 use mathlib.Core.Path.{_≡_, refl, ap₂}
-use mathlib.Core.Bool.{Bool, true, false, _&&_}
+use mathlib.Core.Bool.{true, false}
 use mathlib.Core.List.{List, [], _∷_}
 use native.Mathlib.Omega.{arith}
 use borrow.Author.Tests.{eq-eqb, eqb-true}
@@ -10,7 +10,7 @@ use lib.Dec.{eqb}
 use Rattle.lists.specs.Same.{same}
 use Rattle.lists.proofs.ChoiceLaws.{both-hold}
 
-false-true : {B : Type 0} → false ≡ true → B
+pub false-true : {B : Type 0} → false ≡ true → B
 false-true e = let z : _≡_ {A = ℕ} 0 1 = cc in absurd (omega arith)
 
 pub same-true : (a b : List ℕ) → same a b ≡ true → a ≡ b

@@ -1,5 +1,5 @@
--- The LEB128 form of a number, by its size: one group below 128, else one group and the form of the rest; hence its length and that
--- it is bytes. The number at a place of a list, by the byte that stands there.
+-- The LEB128 form of a number, by its size: one group below 128, else one group and the form of the rest; hence its
+-- length. The number at a place of a list, by the byte that stands there.
 -- Assumes nothing.
 use Prim.Native.Nat.{ℕ, zero, suc, _+_, _-_, _/_, _%_, _^_, _≤_, _<_}
 use mathlib.Core.Path.{_≡_, refl, sym, ap, _∙_}
@@ -12,9 +12,7 @@ use borrow.Author.Tests.{lt-ltb, le-ltb}
 use lib.ListN.{length, getD, drop, drop-of-length-le}
 use lib.Seq.{drop-cons}
 use lib.Dec.{ltb}
-use Rattle.lists.specs.Bytes.{Bytes}
 use Rattle.lists.specs.Choice.{pick}
-use Rattle.lists.proofs.BytesLaws.{no-bytes, cons-bytes}
 use Rattle.numbers.specs.Leb128.{groups, lebOf, above, readLeb}
 use Rattle.numbers.specs.declared.leb128.Leb128.the-variants.{Value, Bad}
 
@@ -65,16 +63,6 @@ leb-any v = length-groups 4 v .0
 pub length-leb : (v : ℕ) → length (lebOf v) ≤ 5
 unfolding lebOf
 length-leb v = length-groups 4 v .1
-
-groups-bytes : (k v : ℕ) → v < 128 ^ suc k → Bytes (groups k v)
-groups-bytes zero v h = rw (groups-small zero v h) (cons-bytes v [] (omega arith) no-bytes)
-groups-bytes (suc k) v h =
-    let ih : Bytes (groups k (v / 128)) = groups-bytes k (v / 128) (omega (arith, rw pow-suc at h)) in
-    groups-by Bytes k v (λ l. cons-bytes v [] (omega arith) no-bytes) (cons-bytes (v % 128 + 128) (groups k (v / 128)) (omega arith) ih)
-
-pub leb-bytes : (v : ℕ) → v < 2 ^ 32 → Bytes (lebOf v)
-unfolding lebOf
-leb-bytes v h = groups-bytes 4 v (omega arith)
 
 -- nothing is read in no bytes, nor past the end
 pub read-zero : (at : ℕ) (s : List ℕ) → readLeb 0 at s ≡ Bad

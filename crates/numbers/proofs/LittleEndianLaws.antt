@@ -10,7 +10,7 @@ use native.Mathlib.Omega.{arith}
 use lib.ListN.{length, getD, take, drop}
 use lib.Seq.{drop-cons}
 use Rattle.lists.specs.Bytes.{Bytes}
-use Rattle.lists.proofs.BytesLaws.{no-bytes, cons-bytes, tail-bytes, drop-bytes}
+use Rattle.lists.proofs.BytesLaws.{tail-bytes, drop-bytes}
 use Rattle.numbers.specs.LittleEndian.{le, unle}
 
 pub le-none : (v : ℕ) → le 0 v ≡ []
@@ -26,11 +26,6 @@ pub length-le : (w v : ℕ) → length (le w v) ≡ w
 unfolding le
 length-le zero v = refl
 length-le (suc w) v = ap suc (length-le w (v / 256))
-
-pub le-bytes : (w v : ℕ) → Bytes (le w v)
-unfolding le
-le-bytes zero v = no-bytes
-le-bytes (suc w) v = cons-bytes (v % 256) (le w (v / 256)) (omega arith) (le-bytes w (v / 256))
 
 pub unle-le : (w v : ℕ) → v < 256 ^ w → unle (le w v) ≡ v
 unfolding le unle

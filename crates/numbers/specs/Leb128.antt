@@ -35,3 +35,8 @@ readLeb (suc k) at (b ∷ s) = pick (ltb b 128) (Value b (at + 1)) (above b (rea
 -- the number that stands at a place of a list
 abbrev pub lebAt : List ℕ → ℕ → Leb128
 lebAt s at = readLeb 5 at (drop at s)
+
+-- a number h above groups that are v and weigh w together: `above` is this for one group (proofs/GroupLaws)
+abbrev pub under : (v w : ℕ) → Leb128 → Leb128
+under v w (Value h n) = pick (eqb h 0) Bad (pick (ltb (v + h * w) 4294967296) (Value (v + h * w) n) Bad)
+under v w Bad = Bad

@@ -3,7 +3,7 @@ ghost use mathlib.Core.Path.{_≡_};
 ghost use Prim.Native.Nat.{_+_, _≤_, _<_};
 ghost use lib.ListN.{length, drop};
 ghost use lib.Seq.{sets};
-ghost use Rattle.numbers.specs.Leb128.{lebOf, lebAt, readLeb, above};
+ghost use Rattle.numbers.specs.Leb128.{lebOf, lebAt, readLeb, above, under};
 
 // A number that was read and the place after it; `Bad` where no shortest form of a 32-bit number stands.
 pub enum Leb128 {
@@ -46,41 +46,44 @@ pub fn put_leb128(buf: &mut [u8], at: usize, v: u32) -> usize
     i + 1
 }
 
-// A byte b with its top bit set, before the number of the bytes after it.
-fn over(b: u32, rest: Leb128) -> Leb128
-    requires { ⌜ (128 ≤ b) × (b < 256) ⌝ }
-    ensures { λ r. ⌜ r ≡ above b rest ⌝ }
+// The number that ends with a last byte b, above groups of the value v that weigh so much together.
+fn ended(v: u64, weight: u64, b: u32, next: usize) -> Leb128
+    requires { ⌜ (v < weight) × (weight ≤ 268435456) × (b < 128) ⌝ }
+    ensures { λ r. ⌜ r ≡ under v weight (Leb128.Value b next) ⌝ }
 {
-    match rest {
-        Leb128::Value(h, next) => {
-            if h == 0 {
-                return Leb128::Bad;
-            }
-            if h < 33554432 {
-                Leb128::Value(b - 128 + 128 * h, next)
-            } else {
-                Leb128::Bad
-            }
-        }
-        Leb128::Bad => Leb128::Bad,
+    if b == 0 {
+        return Leb128::Bad;
     }
+    let sum = v + b as u64 * weight;
+    if 4294967295 < sum {
+        return Leb128::Bad;
+    }
+    Leb128::Value(sum as u32, next)
 }
 
-// The number at a place, in at most left bytes.
-fn leb128_from(s: &[u8], at: usize, left: usize) -> Leb128
-    ensures { λ r. ⌜ r ≡ readLeb left at (drop at (now (s .entry))) ⌝ }
+// The number whose first byte, with its top bit set, is given, and whose further ones, at most four, stand from a place on.
+fn longer(s: &[u8], at: usize, first: u32) -> Leb128
+    requires { ⌜ (128 ≤ first) × (first < 256) ⌝ }
+    ensures { λ r. ⌜ r ≡ above first (readLeb 4 at (drop at (now (s .entry)))) ⌝ }
 {
-    if left == 0 {
-        return Leb128::Bad;
+    let mut v = first as u64 - 128;
+    let mut weight: u64 = 128;
+    let mut i = at;
+    let mut left: usize = 4;
+    while 0 < left {
+        if s.len() <= i {
+            return Leb128::Bad;
+        }
+        let b = wide(s[i]);
+        i += 1;
+        left -= 1;
+        if b < 128 {
+            return ended(v, weight, b, i);
+        }
+        v = v + (b as u64 - 128) * weight;
+        weight = weight * 128;
     }
-    if s.len() <= at {
-        return Leb128::Bad;
-    }
-    let b = wide(s[at]);
-    if b < 128 {
-        return Leb128::Value(b, at + 1);
-    }
-    over(b, leb128_from(s, at + 1, left - 1))
+    Leb128::Bad
 }
 
 // The number that stands at a place; `Bad` where no shortest form of a 32-bit number stands.
@@ -90,10 +93,10 @@ pub fn get_leb128(s: &[u8], at: usize) -> Leb128
     if s.len() <= at {
         return Leb128::Bad;
     }
-    // most numbers have one byte: they do without a call
+    // most numbers have one byte: they do without a loop
     let b = wide(s[at]);
     if b < 128 {
         return Leb128::Value(b, at + 1);
     }
-    over(b, leb128_from(s, at + 1, 4))
+    longer(s, at + 1, b)
 }

@@ -1,16 +1,11 @@
 -- A content repeats another exactly where they are equal and it is no event.
 -- Assumes nothing.
-use Prim.Native.Nat.{ℕ}
 use mathlib.Core.Path.{_≡_, refl, ap, subst}
 use mathlib.Core.Bool.{Bool, true, false}
-use native.Mathlib.Omega.{arith}
 use borrow.Author.Tests.{eq-eqb, eqb-true}
-use Rattle.lists.proofs.SameLaws.{same-true, same-self}
+use Rattle.lists.proofs.SameLaws.{same-true, same-self, false-true}
 use Rattle.signal.specs.Content.{Content, happened, symbols, bits}
 use Rattle.stream.specs.Entries.{repeats}
-
-false-true : {B : Type 0} → false ≡ true → B
-false-true e = let z : _≡_ {A = ℕ} 0 1 = cc in absurd (omega arith)
 
 -- an event is no other content
 abbrev isEvent : Content → Bool

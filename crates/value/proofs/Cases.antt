@@ -2,9 +2,7 @@
 -- Assumes nothing.
 use Prim.Native.Nat.{ℕ}
 use mathlib.Core.Path.{_≡_, refl}
-use mathlib.Core.Bool.{Bool, true, false, _&&_}
-use mathlib.Core.List.{List, [], _∷_, map}
-use mathlib.Core.Option.{Option, some, none}
+use mathlib.Core.List.{[], _∷_, map}
 use Rattle.value.specs.Symbol.{symbolOf, orNumber}
 use Rattle.value.specs.Class.{classNumber, classOfAll, bitsOf, minStates, allSymbols}
 use Rattle.value.specs.declared.states.States.the-variants.{Two, Four, Nine}

@@ -1,18 +1,16 @@
 -- Classes: the enum and its numbers; the class of a value by its largest symbol.
 -- Assumes nothing.
-use Prim.Native.Nat.{ℕ, zero, suc, _+_, _^_, _≤_, _<_, max}
-use mathlib.Core.Path.{_≡_, refl, sym, ap, ap₂, _∙_}
+use Prim.Native.Nat.{ℕ, zero, suc, _≤_, _<_, max}
+use mathlib.Core.Path.{_≡_, refl, sym, ap, _∙_}
 use mathlib.Core.Bool.{Bool, true, false, _&&_}
 use mathlib.Core.List.{List, [], _∷_}
 use native.Mathlib.Omega.{arith}
 use borrow.Author.Tests.{lt-ltb, le-ltb, ltb-true, ltb-false, leb-true, leb-false, le-leb, lt-leb}
 use lib.Dec.{ltb, leb}
-use lib.ListN.{length, getD}
 use Rattle.lists.specs.Choice.{pick}
-use Rattle.value.specs.Class.{classNumber, statesOf, classOf, classOfAll, bitsOf, allSymbols, minStates, largestOf}
+use Rattle.value.specs.Class.{classNumber, statesOf, classOf, classOfAll, allSymbols, minStates, largestOf}
 use Rattle.value.specs.declared.states.States.{States}
 use Rattle.value.specs.declared.states.States.the-variants.{Two, Four, Nine}
-use Rattle.value.specs.declared.states.MaybeStates.{MaybeStates}
 use Rattle.value.specs.declared.states.MaybeStates.the-variants.{Some, None}
 
 pub number-states : (c : ℕ) → c ≤ 2 → classNumber (statesOf c) ≡ c

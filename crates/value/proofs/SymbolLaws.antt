@@ -1,19 +1,18 @@
 -- A byte's symbol is below 9, so that 255 can say "no symbol"; and each symbol has its letter.
 -- Assumes nothing.
 use Prim.Native.Nat.{ℕ, zero, suc, _+_, _-_, _≤_, _<_}
-use mathlib.Core.Path.{_≡_, refl, sym, ap, subst}
-use mathlib.Core.Bool.{Bool, true, false}
+use mathlib.Core.Path.{_≡_, refl, sym, subst, _∙_}
+use mathlib.Core.Bool.{Bool, true, false, _&&_}
 use mathlib.Core.List.{List, [], _∷_}
 use mathlib.Core.Option.{Option, some, none}
 use native.Mathlib.Omega.{arith}
-use lib.Dec.{eqb, eqb→eq}
+use borrow.Author.Tests.{leb-true}
+use lib.Dec.{eqb, leb, eqb→eq}
 use lib.ListN.{length, getD}
 use Rattle.lists.specs.Choice.{pick}
+use Rattle.lists.proofs.SameLaws.{false-true}
 use Rattle.lists.proofs.Table.{at}
-use Rattle.value.specs.Symbol.{placeFrom, letters, lowered, symbolOf, orNumber, maybeBit}
-use Rattle.value.specs.declared.symbol.Bit.{Bit}
-use Rattle.value.specs.declared.symbol.MaybeBit.{MaybeBit}
-use Rattle.value.specs.declared.symbol.MaybeBit.the-variants.{Some, None}
+use Rattle.value.specs.Symbol.{placeFrom, letters, lowered, symbolOf, orNumber}
 
 abbrev pub Below : ℕ → Option ℕ → Type 0
 Below k none = Unit {0}
@@ -40,10 +39,6 @@ pub some-number : (o : Option ℕ) (n : ℕ) → n ≡ orNumber 255 o → (n ≡
 some-number none n e h = absurd (h e)
 some-number (some s) n e h = rw e refl
 
-pub number-below : (o : Option ℕ) (n : ℕ) → Below 9 o → n ≡ orNumber 255 o → (n ≡ 255 → ⊥) → n < 9
-number-below none n b e h = absurd (h e)
-number-below (some s) n b e h = rw e b
-
 -- the letter of a symbol: one test over the letters
 letter-right : ℕ → ℕ → Bool
 letter-right x b = eqb (orNumber 255 (symbolOf b)) x
@@ -55,10 +50,17 @@ letter-symbol x h =
     some-number (symbolOf (getD letters x 0)) x (sym e) (λ f. omega arith)
 
 -- the letters 0 and 1
-pub digit-number : (b : ℕ) → 48 ≤ b → b ≤ 49 → b - 48 ≡ orNumber 255 (symbolOf b)
-digit-number b h k = subst (λ (x : ℕ). b - 48 ≡ orNumber 255 (symbolOf x)) (omega arith) (from (b - 48) (omega arith))
+digit-range : (b : ℕ) (s t : Bool) → s ≡ leb 48 b → t ≡ leb b 49 → s && t ≡ true → (48 ≤ b) × (b ≤ 49)
+digit-range b true true e f h = (leb-true 48 b (sym e), leb-true b 49 (sym f))
+digit-range b true false e f h = false-true h
+digit-range b false t e f h = false-true h
+
+pub digit-symbol : (b : ℕ) (t : Bool) → t ≡ leb 48 b && leb b 49 → t ≡ true → (48 ≤ b) × (symbolOf b ≡ some (b - 48))
+digit-symbol b t e h =
+    let r = digit-range b (leb 48 b) (leb b 49) refl refl (sym e ∙ h) in
+    (r .0, subst (λ (x : ℕ). symbolOf x ≡ some (b - 48)) (omega arith) (from (b - 48) (omega arith)))
   where
-    from : (d : ℕ) → d < 2 → d ≡ orNumber 255 (symbolOf (d + 48))
+    from : (d : ℕ) → d < 2 → symbolOf (d + 48) ≡ some d
     from zero h = unfold symbolOf in refl
     from (suc zero) h = unfold symbolOf in refl
     from (suc (suc d)) h = absurd (omega arith)

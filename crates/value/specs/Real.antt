@@ -3,7 +3,6 @@
 -- Assumes nothing.
 use Prim.Native.Nat.{ℕ}
 use lib.Ieee.{binary64, ofBits}
-use Rattle.value.specs.declared.real.SignalValue.{SignalValue}
 use Rattle.value.specs.declared.real.SignalValue.the-variants.{Real}
 use Rattle.value.specs.declared.real.Entry.{Entry}
 

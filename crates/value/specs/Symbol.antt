@@ -1,12 +1,11 @@
 -- Document 01, 'Symbol and value': which byte stands for which symbol. A symbol is a number, 0 to 8.
 -- Assumes nothing.
 use Prim.Native.Nat.{ℕ, suc, _+_}
-use mathlib.Core.Bool.{Bool, _&&_}
+use mathlib.Core.Bool.{_&&_}
 use mathlib.Core.List.{List, [], _∷_}
 use mathlib.Core.Option.{Option, some, none}
 use lib.Dec.{eqb, leb}
 use Rattle.lists.specs.Choice.{pick}
-use Rattle.value.specs.declared.symbol.Bit.{Bit}
 use Rattle.value.specs.declared.symbol.MaybeBit.{MaybeBit}
 use Rattle.value.specs.declared.symbol.MaybeBit.the-variants.{Some, None}
 

@@ -1,5 +1,7 @@
 // Symbols: the nine values of a bit, and the bytes that stand for them.
 ghost use mathlib.Core.Path.{_≡_};
+ghost use mathlib.Core.Bool.{_&&_};
+ghost use lib.Dec.{leb};
 ghost use Rattle.value.specs.Symbol.{symbolOf, maybeBit, orNumber};
 
 // A symbol's number: 0 1 x z h u w l - are 0 to 8.
@@ -270,6 +272,7 @@ const BIT_CHAR_TO_NUM: [u8; 256] = [
     255,
 ];
 
+// The table's number of a byte. The table is made anew at each use, so the letters 0 and 1, of which most values are, do without it.
 fn table_number(value: u8) -> u8
     ensures { λ r. ⌜ r ≡ orNumber 255 (symbolOf value) ⌝ }
 {
@@ -277,24 +280,34 @@ fn table_number(value: u8) -> u8
     BIT_CHAR_TO_NUM[i]
 }
 
-// The number of the byte's symbol, 255 where it has none. The table is made anew at each use, so the letters 0 and 1, of which most values
-// are, do without it.
+// Whether a byte is the letter 0 or 1.
+fn is_digit(value: u8) -> bool
+    ensures { λ r. ⌜ r ≡ (leb 48 value && leb value 49) ⌝ }
+{
+    if value < b'0' {
+        return false;
+    }
+    value <= b'1'
+}
+
+// The number of the byte's symbol, 255 where it has none.
 pub fn symbol_number(value: u8) -> u8
     ensures { λ r. ⌜ r ≡ orNumber 255 (symbolOf value) ⌝ }
 {
-    if value < b'0' {
-        return table_number(value);
+    if is_digit(value) {
+        return value - b'0';
     }
-    if b'1' < value {
-        return table_number(value);
-    }
-    value - b'0'
+    table_number(value)
 }
 
+// The byte's symbol. It looks into the table itself: with two callers the table stays out of both, which are short then.
 pub fn bit_char_to_num(value: u8) -> MaybeBit
     ensures { λ r. ⌜ r ≡ maybeBit (symbolOf value) ⌝ }
 {
-    let mapped = symbol_number(value);
+    if is_digit(value) {
+        return MaybeBit::Some(Bit(value - b'0'));
+    }
+    let mapped = table_number(value);
     if mapped == 255 {
         return MaybeBit::None;
     }

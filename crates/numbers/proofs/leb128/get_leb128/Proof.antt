@@ -1,6 +1,6 @@
 -- Each return is a case of the definition, at five bytes.
 -- Assumes nothing.
-use mathlib.Core.Path.{refl, sym, _∙_}
+use mathlib.Core.Path.{refl, sym}
 use native.Mathlib.Omega.{arith}
 use borrow.Author.Tests.{lt-ltb, le-ltb}
 use Rattle.numbers.proofs.Leb128Laws.{read-end, read-step}
@@ -27,22 +27,18 @@ returns-2 c =
     let a = c .before .before .before .before .before .args in
     rw (read-step 5 (a .at) (a .s .now) (omega arith) (omega arith), ← (c .before .wide .ensures), lt-ltb _ _ (c .if2 .taken)) refl
 
-add-leb128-from : tie.Need-add-leb128-from
-add-leb128-from c = search needs
+add-longer : tie.Need-add-longer
+add-longer c = search needs
 
-leb128-from-requires : tie.Need-leb128-from-requires
-leb128-from-requires c κs = search needs
-
-over-requires : tie.Need-over-requires
-over-requires c κs =
-    let a = c .before .before .before .before .before .before .args in
-    omega (arith, c .before .before .before .shared-slice-known2 .given (a .at))
+longer-requires : tie.Need-longer-requires
+longer-requires c κs =
+    let a = c .before .before .before .before .before .args in
+    (c .if2 .left, omega (arith, c .before .wide .ensures, c .before .before .shared-slice-known2 .given (a .at)))
 
 returns-3 : tie.Need-returns-3
 returns-3 c =
-    let a = c .before .before .before .before .before .before .before .args in
-    rw (read-step 5 (a .at) (a .s .now) (omega arith) (omega arith), ← (c .before .before .before .wide .ensures), le-ltb _ _ (c .before .before .if2 .left))
-    (c .over .ensures ∙ rw (c .before .leb128-from .ensures) refl)
+    let a = c .before .before .before .before .before .before .args in
+    rw (read-step 5 (a .at) (a .s .now) (omega arith) (omega arith), ← (c .before .before .wide .ensures), le-ltb _ _ (c .before .if2 .left)) (c .longer .ensures)
 
 pub get-leb128-spec : {M : Type 1} → statement M
 get-leb128-spec =
@@ -53,7 +49,6 @@ get-leb128-spec =
     wide-requires
     add-t8
     returns-2
-    add-leb128-from
-    leb128-from-requires
-    over-requires
+    add-longer
+    longer-requires
     returns-3)
