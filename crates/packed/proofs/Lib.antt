@@ -1,4 +1,5 @@
 pub mod PackedLaws
+pub mod LargestLaws
 pub mod RawLaws
 pub mod Cases
 pub mod RawSaid

@@ -1,18 +1,17 @@
 -- Packing and unpacking are inverse, where the bits above the symbols are zero: digits of b bits and the number that they make are inverse
 -- to each other, for every b, and both symbols and bytes are digits of one number.
 -- Assumes nothing.
-use Prim.Native.Nat.{ℕ, zero, suc, _+_, _-_, _*_, _/_, _%_, _^_, _≤_, _<_, max}
+use Prim.Native.Nat.{ℕ, zero, suc, _+_, _-_, _*_, _/_, _%_, _^_, _≤_, _<_}
 use mathlib.Core.Path.{_≡_, refl, sym, ap, ap₂, _∙_}
 use mathlib.Core.Bool.{Bool, true, false}
 use mathlib.Core.List.{List, [], _∷_}
-use native.Mathlib.Nat.{mod-lt, mod-le, mod-one, mod-eq-of-lt, div-add-mod', mul-le-mul-right, mul-pos, lt-of-lt-of-le}
-use native.Mathlib.Numerals.{add-one}
+use native.Mathlib.Nat.{mod-lt, mod-le, mod-one, mod-eq-of-lt, div-add-mod', one-mul, mul-le-mul-right, mul-pos, lt-of-lt-of-le}
 use native.Mathlib.Omega.{arith}
 use borrow.Author.Tests.{lt-ltb, le-ltb, ltb-true, ltb-false, leb-true, eqb-true, eqb-false}
 use lib.Arith.{digits-lt}
 use lib.Dec.{ltb, eqb}
 use lib.ListN.{length, getD}
-use lib.Pow.{pow-pos, pow-mono, pow-add, shr-shr, high, low, mod-pow-add, field, mod-mod-pow}
+use lib.Pow.{pow-pos, pow-mono, pow-add, shl-exact, shr-shr, high, low, mod-pow-add, field, mod-mod-pow}
 use Rattle.lists.specs.Choice.{pick}
 use Rattle.lists.specs.Bytes.{Bytes}
 use Rattle.lists.proofs.BytesLaws.{tail-bytes}
@@ -30,6 +29,10 @@ AllBelow m s = (i : ℕ) → getD s i 0 < m
 
 pow-next : (n b : ℕ) → 2 ^ (suc n * b) ≡ 2 ^ b * 2 ^ (n * b)
 pow-next n b = let e : suc n * b ≡ b + n * b = omega arith in rw e (pow-add 2 b (n * b))
+
+-- 1 shifted within a word of w bits
+pub shifted-one : (k w : ℕ) → k < w → 1 * 2 ^ k % 2 ^ w ≡ 2 ^ k
+shifted-one k w h = shl-exact {a = 1} 1 k w (omega arith) (omega arith) ∙ one-mul (2 ^ k)
 
 -- b bits from k on, of the j lowest bits alone
 low-field : (v j k b : ℕ) → k + b ≤ j → v % 2 ^ j / 2 ^ k % 2 ^ b ≡ v / 2 ^ k % 2 ^ b
@@ -68,10 +71,6 @@ digits-next b n i v h =
     let e : n - i ≡ suc (n - suc i) = omega arith in
     let f : n - 1 - i ≡ n - suc i = omega arith in
     rw (e, f) (unfold digits in refl)
-
-pub largest-next : (b i v : ℕ) → largestOf (digits b (i + 1) v) ≡ max (digitAt b i v) (largestOf (digits b i v))
-unfolding digits largestOf
-largest-next b i v = rw add-one refl
 
 -- digits do not see the bits above them
 pub digits-mod : (b n k v : ℕ) → n * b ≤ k → digits b n (v % 2 ^ k) ≡ digits b n v
@@ -210,7 +209,7 @@ unpacked-top w c b e =
 
 -- ---- bytes of a packed value
 
-byte-at : (b : List ℕ) (q : ℕ) → Bytes b → q < length b → getD b (length b - 1 - q) 0 ≡ digitAt 8 q (numberOf 8 b)
+pub byte-at : (b : List ℕ) (q : ℕ) → Bytes b → q < length b → getD b (length b - 1 - q) 0 ≡ digitAt 8 q (numberOf 8 b)
 byte-at b q h k =
     let n = length b in
     let e : n - 1 - (n - 1 - q) ≡ q = omega arith in
@@ -268,7 +267,7 @@ push-keep b acc x l = rw (pow-next (length l) b) (omega arith)
 pub push-byte : (n x r : ℕ) → x < 256 → r < 2 ^ (n * 8) → digits 8 (suc n) (x * 2 ^ (n * 8) + r) ≡ x ∷ digits 8 n r
 push-byte n x r h k = push 8 n x r h k
 
-largest-below : (m : ℕ) (l : List ℕ) → AllBelow m l → 0 < m → largestOf l < m
+pub largest-below : (m : ℕ) (l : List ℕ) → AllBelow m l → 0 < m → largestOf l < m
 unfolding largestOf
 largest-below m [] h p = p
 largest-below m (x ∷ l) h p = let r = largest-below m l (λ i. h (suc i)) p in let f : x < m = h 0 in omega arith

@@ -9,13 +9,13 @@ use value::states::MaybeStates;
 use value::states::States;
 use value::symbol::Bit;
 ghost use mathlib.Core.Path.{_≡_};
-ghost use Prim.Native.Nat.{_*_, _/_, _%_, _^_, _≤_, _<_};
+ghost use Prim.Native.Nat.{_*_, _/_, _%_, _^_, _≤_, _<_, max};
 ghost use lib.ListN.{length};
 ghost use lib.Seq.{sets};
 ghost use lib.Dec.{eqb};
 ghost use Rattle.lists.specs.Choice.{pick};
 ghost use Rattle.value.specs.Class.{classNumber, bitsOf, largestOf, minStates};
-ghost use Rattle.packed.specs.Packed.{numberOf, digitAt, unpacked, packedLength, topClear};
+ghost use Rattle.packed.specs.Packed.{numberOf, digitAt, digits, unpacked, packedLength, topClear};
 
 fn wide(x: u8) -> u32
     ensures { λ r. ⌜ r ≡ x ⌝ }
@@ -69,20 +69,51 @@ pub fn unpack(out: &mut [u8], bytes: &[u8], width: u32, states: States)
     }
 }
 
-// The largest symbol of a packed value.
+// The larger of two symbols.
+fn larger(a: u8, b: u8) -> u8
+    ensures { λ r. ⌜ r ≡ max a b ⌝ }
+{
+    if a < b {
+        return b;
+    }
+    a
+}
+
+// The largest symbol of a byte.
+fn largest_in(x: u8, states: States) -> u8
+    ensures { λ r. ⌜ r ≡ largestOf (digits (bitsOf (classNumber states)) (8 / bitsOf (classNumber states)) x) ⌝ }
+{
+    match states {
+        States::Two => if x == 0 { 0 } else { 1 },
+        States::Four => larger(x / 64 % 4, larger(x / 16 % 4, larger(x / 4 % 4, x % 4))),
+        States::Nine => larger(x / 16 % 16, x % 16),
+    }
+}
+
+// The largest symbol in the low bits of a byte, so many of them.
+fn largest_low(x: u8, bits: u64, states: States) -> u8
+    requires { ⌜ bits < 8 ⌝ }
+    ensures { λ r. ⌜ r ≡ largestOf (digits (bitsOf (classNumber states)) (8 / bitsOf (classNumber states)) (x % 2 ^ bits)) ⌝ }
+{
+    largest_in(x % (1u8 << (bits as u32)), states)
+}
+
+// The largest symbol of a packed value: its last bytes are full, and the byte before them may hold symbols in its low bits.
 fn largest(bytes: &[u8], width: u32, states: States) -> u8
     requires { ⌜ packedLength width (classNumber states) ≤ length (now bytes) ⌝ }
     ensures { λ r. ⌜ r ≡ largestOf (unpacked width (classNumber states) (now (bytes .entry))) ⌝ }
 {
+    let bits = width as u64 * states.bits();
+    let used = bits % 8;
+    let mut i = bytes.len() - (bits / 8) as usize;
     let mut m: u8 = 0;
-    let mut i: u32 = 0;
-    while i < width {
-        let bit = get_bit(bytes, states, i);
-        let x = bit.0;
+    if used != 0 {
+        m = largest_low(bytes[i - 1], used, states);
+    }
+    // a turn is the same for every byte, so the compiler takes many at a time
+    while i < bytes.len() {
+        m = larger(m, largest_in(bytes[i], states));
         i += 1;
-        if m < x {
-            m = x;
-        }
     }
     m
 }
