@@ -21,10 +21,12 @@ use Rattle.numbers.specs.declared.leb128.Leb128.the-variants.{Value, Bad}
 use Rattle.numbers.proofs.Leb128Trip.{read-is, get-put, put-get}
 use Rattle.value.specs.Class.{classNumber, statesOf, classOfAll, allSymbols, minStates}
 use Rattle.value.specs.declared.states.States.{States}
+use Rattle.value.specs.declared.states.States.the-variants.{Two}
 use Rattle.value.specs.declared.states.MaybeStates.{MaybeStates}
 use Rattle.value.specs.declared.states.MaybeStates.the-variants.{Some, None}
 use Rattle.value.proofs.ClassLaws.{number-states, class-all-small}
 use Rattle.packed.specs.Packed.{unpacked, packedLength, topClear}
+use Rattle.packed.proofs.PackedLaws.{two-least}
 use Rattle.signal.specs.declared.kind.SignalEncoding.{SignalEncoding}
 use Rattle.signal.specs.declared.kind.SignalEncoding.the-variants.{BitVector, Real, Absent}
 use Rattle.signal.specs.declared.decode.ChangeValue.{ChangeValue}
@@ -121,6 +123,16 @@ own-some w c b t m x n k e f p q u v =
     let r = some-symbols (unpacked w c b) x (sym p ∙ q) in
     rw (← e, f, r .0, r .1, u, v) refl
 
+-- of bits that are symbols each the top bits decide
+pub own-two : (w : ℕ) (b : List ℕ) → ownClass w 0 b ≡ topClear w 0 b
+own-two w b =
+    let r = some-symbols (unpacked w 0 b) Two (two-least w 0 b refl) in
+    rw (r .0, r .1) (by (topClear w 0 b))
+  where
+    by : (t : Bool) → t && true ≡ t
+    by true = refl
+    by false = refl
+
 -- wider vectors
 module _ (s : List ℕ) (at v w : ℕ) (inside : at ≤ length s) where
   -- class 3 is no class
@@ -207,6 +219,13 @@ size-is w v n x h e q = q ∙ ap (packedLength w) (class-is v x h e)
 
 pub own-is : (w v n k : ℕ) (x : States) (t : Bool) (l : List ℕ) → (v % 4 ≡ 3 → ⊥) → x ≡ statesOf (v % 4) → k ≡ n → t ≡ ownClass w (classNumber x) (take k l) → t ≡ ownClass w (v % 4) (take n l)
 own-is w v n k x t l h e q f = f ∙ ap₂ (λ (c m : ℕ). ownClass w c (take m l)) (class-is v x h e) q
+
+-- the same for class Two
+pub two-size : (w v n : ℕ) → v % 4 ≡ 0 → n ≡ packedLength w 0 → n ≡ packedLength w (v % 4)
+two-size w v n z q = q ∙ ap (packedLength w) (sym z)
+
+pub two-own : (w v n k : ℕ) (t : Bool) (l : List ℕ) → v % 4 ≡ 0 → k ≡ n → t ≡ topClear w 0 (take k l) → t ≡ ownClass w (v % 4) (take n l)
+two-own w v n k t l z q f = f ∙ sym (own-two w (take k l)) ∙ ap₂ (λ (c m : ℕ). ownClass w c (take m l)) (sym z) q
 
 -- by the kind, as the code knows it
 module _ (k : SignalEncoding) (s : List ℕ) (at v : ℕ) (inside : at ≤ length s) where

@@ -46,6 +46,10 @@ readAs k n (got x r) = read.Change (x .d) (valueOf k (x .content)) (n - length r
 abbrev pub changeAt : SignalEncoding → List ℕ → ℕ → ReadChange
 changeAt k s at = readAs k (length s) (readChange k (drop at s))
 
+-- a change was read
+abbrev pub Stands : ReadChange → Type 0
+Stands r = r ≡ read.Bad → ⊥
+
 -- an answer whose d is in range
 abbrev pub answered : (d : ℕ) → ChangeValue → (next : ℕ) → ReadChange
 answered d v n = pick (leb d maxDelta) (read.Change d v n) read.Bad

@@ -50,11 +50,30 @@ fn own_class(part: &[u8], width: u32, states: States) -> bool
     }
 }
 
+// A wider vector's change of class Two, of which most are: every bit is a symbol, so only the unused top bits are looked at.
+fn read_two(s: &[u8], at: usize, v: u32, width: u32) -> ReadChange
+    requires { ⌜ (at ≤ length (now s)) × (1 < width) × (v % 4 ≡ 0) ⌝ }
+    ensures { λ r. ⌜ r ≡ readAs (BitVector width) (length (now (s .entry))) (wideAfter width v (drop at (now (s .entry)))) ⌝ }
+{
+    let size = bytes_required(States::Two, width);
+    if s.len() - at < size {
+        return ReadChange::Bad;
+    }
+    let end = at + size;
+    if !top_clear(&s[at..end], width, States::Two) {
+        return ReadChange::Bad;
+    }
+    in_range(v / 4, ChangeValue::MultiBit(States::Two), end)
+}
+
 // A wider vector's change whose number was v, before the place at.
 fn read_wide(s: &[u8], at: usize, v: u32, width: u32) -> ReadChange
     requires { ⌜ (at ≤ length (now s)) × (1 < width) ⌝ }
     ensures { λ r. ⌜ r ≡ readAs (BitVector width) (length (now (s .entry))) (wideAfter width v (drop at (now (s .entry)))) ⌝ }
 {
+    if v % 4 == 0 {
+        return read_two(s, at, v, width);
+    }
     if v % 4 == 3 {
         return ReadChange::Bad;
     }

@@ -10,7 +10,7 @@ use borrow.Author.Tests.{leb-true}
 use lib.Dec.{eqb, leb, eqb→eq}
 use lib.ListN.{length, getD}
 use Rattle.lists.specs.Choice.{pick}
-use Rattle.lists.proofs.SameLaws.{false-true}
+use Rattle.lists.proofs.ChoiceLaws.{both-hold}
 use Rattle.lists.proofs.Table.{at}
 use Rattle.value.specs.Symbol.{placeFrom, letters, lowered, symbolOf, orNumber}
 
@@ -50,15 +50,12 @@ letter-symbol x h =
     some-number (symbolOf (getD letters x 0)) x (sym e) (λ f. omega arith)
 
 -- the letters 0 and 1
-digit-range : (b : ℕ) (s t : Bool) → s ≡ leb 48 b → t ≡ leb b 49 → s && t ≡ true → (48 ≤ b) × (b ≤ 49)
-digit-range b true true e f h = (leb-true 48 b (sym e), leb-true b 49 (sym f))
-digit-range b true false e f h = false-true h
-digit-range b false t e f h = false-true h
-
 pub digit-symbol : (b : ℕ) (t : Bool) → t ≡ leb 48 b && leb b 49 → t ≡ true → (48 ≤ b) × (symbolOf b ≡ some (b - 48))
 digit-symbol b t e h =
-    let r = digit-range b (leb 48 b) (leb b 49) refl refl (sym e ∙ h) in
-    (r .0, subst (λ (x : ℕ). symbolOf x ≡ some (b - 48)) (omega arith) (from (b - 48) (omega arith)))
+    let both = both-hold (leb 48 b) (leb b 49) (sym e ∙ h) in
+    let low : 48 ≤ b = leb-true 48 b (both .0) in
+    let high : b ≤ 49 = leb-true b 49 (both .1) in
+    (low, subst (λ (x : ℕ). symbolOf x ≡ some (b - 48)) (omega arith) (from (b - 48) (omega arith)))
   where
     from : (d : ℕ) → d < 2 → symbolOf (d + 48) ≡ some d
     from zero h = unfold symbolOf in refl

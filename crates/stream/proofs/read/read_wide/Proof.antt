@@ -9,11 +9,17 @@ use borrow.Author.Needs.{needs}
 use Rattle.stream.proofs.read.read_wide.Statement.{statement}
 use Rattle.stream.proofs.read.read_wide.Tie as tie
 
+read-two-requires : tie.Need-read-two-requires
+read-two-requires c κs = search needs
+
 returns : tie.Need-returns
-returns c =
-    let p = c .before .before in
+returns c = c .read-two .ensures
+
+returns-2 : tie.Need-returns-2
+returns-2 c =
+    let p = c .before .before .before in
     let a = p .args in
-    wide-three (a .s .now) (a .at) (a .v) (a .width) (p .pre .0) (c .if1 .taken)
+    wide-three (a .s .now) (a .at) (a .v) (a .width) (p .pre .0) (c .if2 .taken)
 
 cast-from-number : tie.Need-cast-from-number
 cast-from-number c = search needs
@@ -24,16 +30,16 @@ from-number-requires c κs = search needs
 bytes-required-requires : tie.Need-bytes-required-requires
 bytes-required-requires c κs = search needs
 
-sub-if2 : tie.Need-sub-if2
-sub-if2 c = search needs
+sub-if3 : tie.Need-sub-if3
+sub-if3 c = search needs
 
-returns-2 : tie.Need-returns-2
-returns-2 c =
-    let p = c .before .before .before .before .before in
+returns-3 : tie.Need-returns-3
+returns-3 c =
+    let p = c .before .before .before .before .before .before in
     let a = p .args in
     let z = c .before .bytes-required in
     let x = c .before .before .from-number in
-    wide-short (a .s .now) (a .at) (a .v) (a .width) (p .pre .0) (z .result) (size-is (a .width) (a .v) _ _ (c .before .before .before .if1 .left) (x .ensures) (z .ensures)) (c .if2 .taken)
+    wide-short (a .s .now) (a .at) (a .v) (a .width) (p .pre .0) (z .result) (size-is (a .width) (a .v) _ _ (c .before .before .before .if2 .left) (x .ensures) (z .ensures)) (c .if3 .taken)
 
 add-end : tie.Need-add-end
 add-end c = search needs
@@ -50,49 +56,51 @@ part-own-class-end c = search needs
 own-class-requires : tie.Need-own-class-requires
 own-class-requires c κs = search needs
 
-returns-3 : tie.Need-returns-3
-returns-3 c =
-    let p = c .before .before .before .before .before .before .before .before in
-    let a = p .args in
-    let z = c .before .before .before .before .bytes-required in
-    let x = c .before .before .before .before .before .from-number in
-    let h = c .before .before .before .before .before .before .if1 .left in
-    let o = c .before .own-class in
-    wide-other (a .s .now) (a .at) (a .v) (a .width) (p .pre .0) (z .result) (o .result) (size-is (a .width) (a .v) _ _ h (x .ensures) (z .ensures))
-    (own-is (a .width) (a .v) (z .result) (a .at + z .result - a .at) (x .result) (o .result) (drop (a .at) (a .s .now)) h (x .ensures) (omega arith) (o .ensures))
-    (not-true _ (c .if3 .taken))
-
-in-range-requires : tie.Need-in-range-requires
-in-range-requires c κs = search needs
-
 returns-4 : tie.Need-returns-4
 returns-4 c =
     let p = c .before .before .before .before .before .before .before .before .before in
     let a = p .args in
+    let z = c .before .before .before .before .bytes-required in
+    let x = c .before .before .before .before .before .from-number in
+    let h = c .before .before .before .before .before .before .if2 .left in
+    let o = c .before .own-class in
+    wide-other (a .s .now) (a .at) (a .v) (a .width) (p .pre .0) (z .result) (o .result) (size-is (a .width) (a .v) _ _ h (x .ensures) (z .ensures))
+    (own-is (a .width) (a .v) (z .result) (a .at + z .result - a .at) (x .result) (o .result) (drop (a .at) (a .s .now)) h (x .ensures) (omega arith) (o .ensures))
+    (not-true _ (c .if4 .taken))
+
+in-range-requires : tie.Need-in-range-requires
+in-range-requires c κs = search needs
+
+returns-5 : tie.Need-returns-5
+returns-5 c =
+    let p = c .before .before .before .before .before .before .before .before .before .before in
+    let a = p .args in
     let z = c .before .before .before .before .before .bytes-required in
     let x = c .before .before .before .before .before .before .from-number in
-    let h = c .before .before .before .before .before .before .before .if1 .left in
+    let h = c .before .before .before .before .before .before .before .if2 .left in
     let o = c .before .before .own-class in
     c .in-range .ensures
     ∙ wide-own (a .s .now) (a .at) (a .v) (a .width) (p .pre .0) (z .result) (o .result) (x .result) (size-is (a .width) (a .v) _ _ h (x .ensures) (z .ensures))
     (own-is (a .width) (a .v) (z .result) (a .at + z .result - a .at) (x .result) (o .result) (drop (a .at) (a .s .now)) h (x .ensures) (omega arith) (o .ensures))
-    (not-false _ (c .before .if3 .left)) (c .before .before .before .before .if2 .left) (p .pre .1) (class-is (a .v) (x .result) h (x .ensures)) (sym (x .ensures))
+    (not-false _ (c .before .if4 .left)) (c .before .before .before .before .if3 .left) (p .pre .1) (class-is (a .v) (x .result) h (x .ensures)) (sym (x .ensures))
 
 pub read-wide-spec : {M : Type 1} → statement M
 read-wide-spec =
     tie.close
     (tie.spec
+    read-two-requires
     returns
+    returns-2
     cast-from-number
     from-number-requires
     bytes-required-requires
-    sub-if2
-    returns-2
+    sub-if3
+    returns-3
     add-end
     sub-own-class
     part-own-class-start
     part-own-class-end
     own-class-requires
-    returns-3
+    returns-4
     in-range-requires
-    returns-4)
+    returns-5)
