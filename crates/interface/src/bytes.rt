@@ -27,7 +27,7 @@ ghost use Rattle.loaded.specs.Opener.{openOf, streamOf};
 ghost use Rattle.loaded.specs.Reader.{loadOf, tableOf, cursorOf};
 ghost use Rattle.entry.specs.Length.{entryLength};
 ghost use Rattle.entry.specs.Answer.{entryValueOf};
-ghost use Rattle.interface.specs.Answered.{loadTold, loadToldOf, tableTold, tableToldOf, partOf, cursorTold, cursorToldOf, entryTold, entryToldOf};
+ghost use Rattle.interface.specs.Answered.{loadTold, loadToldOf, tableTold, tableToldOf, partOf, PlaceOf, cursorTold, cursorToldOf, entryTold, entryToldOf};
 
 // 1 where the bytes are an image, else 0.
 #[no_mangle]
@@ -61,7 +61,7 @@ pub extern "C" fn wejumo_table(image: &[u8], out: &mut [u64]) -> TableNumbers
 // The stream of a signal in a block, as a place in the image; of length 0 where there is none.
 #[no_mangle]
 pub extern "C" fn wejumo_stream(image: &[u8], block: u32, signal: u32) -> PartNumbers
-    ensures { λ r. ⌜ (partOf r (now (image .entry)) ≡ streamOf (now (image .entry)) block signal) × (r .from + r .length ≤ length (now (image .entry))) ⌝ }
+    ensures { λ r. ⌜ (partOf r (now (image .entry)) ≡ streamOf (now (image .entry)) block signal) × (r .from + r .length ≤ length (now (image .entry))) × PlaceOf r (now (image .entry)) block signal ⌝ }
 {
     if !open(image) {
         return PartNumbers { from: 0, length: 0 };

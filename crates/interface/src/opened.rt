@@ -26,7 +26,7 @@ ghost use Rattle.loaded.specs.Opener.{kindAt, streamOf};
 ghost use Rattle.loaded.specs.Loading.{tableFrom};
 ghost use Rattle.loaded.specs.Reader.{loadOf, tableOf, cursorOf};
 ghost use Rattle.walk.specs.Walk.{Opened, imageIn};
-ghost use Rattle.interface.specs.Answered.{loadTold, loadToldOf, tableTold, tableToldOf, partOf, cursorTold, cursorToldOf};
+ghost use Rattle.interface.specs.Answered.{loadTold, loadToldOf, tableTold, tableToldOf, partOf, PlaceOf, cursorTold, cursorToldOf};
 
 // How many signals there are.
 #[no_mangle]
@@ -87,12 +87,11 @@ pub extern "C" fn wejumo_opened_table(image: &[u8], out: &mut [u64]) -> TableNum
     table_numbers(table_in(image, out))
 }
 
-// The stream of a signal in a block, as a place in the image, since a reference cannot be handed out. Bytes of a stream may stand in an
-// image more than once; the place is one where they do.
+// The stream of a signal in a block, as a place in the image, since a reference cannot be handed out; of length 0 where there is none.
 #[no_mangle]
 pub extern "C" fn wejumo_opened_stream(image: &[u8], block: u32, signal: u32) -> PartNumbers
     requires { ⌜ Opened (now image) ⌝ }
-    ensures { λ r. ⌜ (partOf r (now (image .entry)) ≡ streamOf (now (image .entry)) block signal) × (r .from + r .length ≤ length (now (image .entry))) ⌝ }
+    ensures { λ r. ⌜ (partOf r (now (image .entry)) ≡ streamOf (now (image .entry)) block signal) × (r .from + r .length ≤ length (now (image .entry))) × PlaceOf r (now (image .entry)) block signal ⌝ }
 {
     if block_count(image) <= block {
         return PartNumbers { from: 0, length: 0 };

@@ -17,17 +17,17 @@ use Rattle.signal.specs.declared.decode.ChangeValue.{ChangeValue}
 use Rattle.signal.specs.declared.decode.ChangeValue.the-variants as value
 use Rattle.stream.specs.declared.read.ReadChange.the-variants as read
 use Rattle.stream.specs.Stream.{ownClass, wideAfter, valueAfter}
-use Rattle.stream.specs.Answer.{readAs, answered, bitAnswered, Stands}
+use Rattle.stream.specs.Answer.{readAs, answered, bitAnswered, IsChange}
 use Rattle.stream.proofs.ReadLaws.{range-over, range-in, bit-over, bit-in, wide-three, wide-short, wide-other, wide-own, real-short, real-long, kind-event, kind-bit, kind-wide, kind-real}
 
-pub known-in : (d : ℕ) (v : ChangeValue) (n : ℕ) → Stands (answered d v n) → read.Change d v n ≡ answered d v n
+pub known-in : (d : ℕ) (v : ChangeValue) (n : ℕ) → IsChange (answered d v n) → read.Change d v n ≡ answered d v n
 known-in d v n k = by (decLt 65534 d)
   where
     by : Dec (65534 < d) → read.Change d v n ≡ answered d v n
     by (yes l) = absurd (k (sym (range-over d v n l)))
     by (no g) = range-in d v n (omega arith)
 
-pub known-bit : (v n : ℕ) → Stands (bitAnswered v n) → read.Change (v / 16) (value.SingleBit (record { 0 = v % 16 })) n ≡ bitAnswered v n
+pub known-bit : (v n : ℕ) → IsChange (bitAnswered v n) → read.Change (v / 16) (value.SingleBit (record { 0 = v % 16 })) n ≡ bitAnswered v n
 known-bit v n k = by (decLt 8 (v % 16))
   where
     by : Dec (8 < v % 16) → read.Change (v / 16) (value.SingleBit (record { 0 = v % 16 })) n ≡ bitAnswered v n
@@ -42,7 +42,7 @@ pub record Wide (s : List ℕ) (at v w : ℕ) : Type 0 where
   pub room : packedLength w (v % 4) ≤ length s - at
   pub change : read.Change (v / 4) (value.MultiBit (statesOf (v % 4))) (at + packedLength w (v % 4)) ≡ readAs (BitVector w) (length s) (wideAfter w v (drop at s))
 
-pub known-wide : (s : List ℕ) (at v w : ℕ) → at ≤ length s → 1 < w → Stands (readAs (BitVector w) (length s) (wideAfter w v (drop at s))) → Wide s at v w
+pub known-wide : (s : List ℕ) (at v w : ℕ) → at ≤ length s → 1 < w → IsChange (readAs (BitVector w) (length s) (wideAfter w v (drop at s))) → Wide s at v w
 known-wide s at v w i h k = record { class = class; room = room; change = known-in (v / 4) (value.MultiBit (statesOf (v % 4))) (at + n) (λ b. k (sym own ∙ b)) ∙ own }
   where
     n : ℕ
@@ -65,7 +65,7 @@ known-wide s at v w i h k = record { class = class; room = room; change = known-
     own : answered (v / 4) (value.MultiBit (statesOf (v % 4))) (at + n) ≡ readAs (BitVector w) (length s) (wideAfter w v (drop at s))
     own = by-own (ownClass w (v % 4) (take n (drop at s))) refl
 
-pub known-real : (s : List ℕ) (at v : ℕ) → at ≤ length s → Stands (readAs Real (length s) (valueAfter Real v (drop at s)))
+pub known-real : (s : List ℕ) (at v : ℕ) → at ≤ length s → IsChange (readAs Real (length s) (valueAfter Real v (drop at s)))
     → (8 ≤ length s - at) × (read.Change v (value.Real (unle (take 8 (drop at s)))) (at + 8) ≡ readAs Real (length s) (valueAfter Real v (drop at s)))
 known-real s at v i k = by (decLt (length s - at) 8)
   where
@@ -76,7 +76,7 @@ known-real s at v i k = by (decLt (length s - at) 8)
         (omega arith, known-in v (value.Real (unle (take 8 (drop at s)))) (at + 8) (λ b. k (sym e ∙ b)) ∙ e)
 
 -- by the kind, as the code knows it
-module _ (k : SignalEncoding) (s : List ℕ) (at v : ℕ) (inside : at ≤ length s) (h : Stands (readAs k (length s) (valueAfter k v (drop at s)))) where
+module _ (k : SignalEncoding) (s : List ℕ) (at v : ℕ) (inside : at ≤ length s) (h : IsChange (readAs k (length s) (valueAfter k v (drop at s)))) where
   pub event-stands : (w : ℕ) → k ≡ BitVector w → w ≡ 0 → read.Change v value.Event at ≡ readAs k (length s) (valueAfter k v (drop at s))
   event-stands w e z =
       let q = kind-event k s at v inside w e z in

@@ -47,8 +47,8 @@ abbrev pub changeAt : SignalEncoding → List ℕ → ℕ → ReadChange
 changeAt k s at = readAs k (length s) (readChange k (drop at s))
 
 -- a change was read
-abbrev pub Stands : ReadChange → Type 0
-Stands r = r ≡ read.Bad → ⊥
+abbrev pub IsChange : ReadChange → Type 0
+IsChange r = r ≡ read.Bad → ⊥
 
 -- an answer whose d is in range
 abbrev pub answered : (d : ℕ) → ChangeValue → (next : ℕ) → ReadChange

@@ -12,11 +12,11 @@ ghost use mathlib.Core.Path.{_≡_};
 ghost use Prim.Native.Nat.{_≤_};
 ghost use lib.ListN.{length, drop};
 ghost use Rattle.stream.specs.Stream.{valueAfter};
-ghost use Rattle.stream.specs.Answer.{readAs, changeAt, Stands};
+ghost use Rattle.stream.specs.Answer.{readAs, changeAt, IsChange};
 
 // What follows a change's number v from at on.
 fn known_value(s: &[u8], at: usize, v: u32, kind: SignalEncoding) -> ReadChange
-    requires { ⌜ (at ≤ length (now s)) × Stands (readAs kind (length (now s)) (valueAfter kind v (drop at (now s)))) ⌝ }
+    requires { ⌜ (at ≤ length (now s)) × IsChange (readAs kind (length (now s)) (valueAfter kind v (drop at (now s)))) ⌝ }
     ensures { λ r. ⌜ r ≡ readAs kind (length (now (s .entry))) (valueAfter kind v (drop at (now (s .entry)))) ⌝ }
 {
     match kind {
@@ -42,7 +42,7 @@ fn known_value(s: &[u8], at: usize, v: u32, kind: SignalEncoding) -> ReadChange
 
 // The change of a signal of a kind that stands at a place of a stream.
 pub fn known_change(s: &[u8], at: usize, kind: SignalEncoding) -> ReadChange
-    requires { ⌜ Stands (changeAt kind (now s) at) ⌝ }
+    requires { ⌜ IsChange (changeAt kind (now s) at) ⌝ }
     ensures { λ r. ⌜ r ≡ changeAt kind (now (s .entry)) at ⌝ }
 {
     match get_leb128(s, at) {

@@ -2,7 +2,7 @@
 -- Assumes nothing.
 use Prim.Native.Nat.{ℕ, zero, suc, _+_, _-_, _*_, _≤_, _<_}
 use mathlib.Core.Path.{_≡_, refl, sym, ap, _∙_}
-use mathlib.Core.Bool.{true}
+use mathlib.Core.Bool.{true, false}
 use mathlib.Core.List.{List, [], _∷_, _++_, append-assoc}
 use mathlib.Core.Option.{Option, some, none}
 use native.Mathlib.Nat.{add-zero}
@@ -26,7 +26,7 @@ use Rattle.codec.proofs.PlaceLaws.{offset-none}
 use Rattle.codec.proofs.Growth.{parts-count}
 use Rattle.loaded.specs.Opener.{kindAt, blockAt, partAt, streamIn, streamFrom, streamOf}
 use Rattle.loaded.specs.Loading.{topIn}
-use Rattle.walk.specs.Walk.{Opened, imageFrom, imageIn, blockPlace, partsIn, dataPlace, partPlace, BlockHere, PartHere}
+use Rattle.walk.specs.Walk.{Opened, imageFrom, imageIn, blockPlace, partsIn, dataPlace, partPlace, partThere, BlockHere, PartHere}
 use Rattle.walk.proofs.StandLaws.{Stands, stands-front, stands-back, Number, stands-number, stands-nth}
 use Rattle.walk.proofs.HeadLaws.{means, head-in}
 use Rattle.walk.proofs.BlockLaws.{here, next-size, count-of}
@@ -246,6 +246,13 @@ stream-from (some x) n g = refl
 pub stream-of : (b : List ℕ) (n g : ℕ) → streamOf b n g ≡ streamIn (kindAt (imageIn b) g) (partAt (blockAt (imageIn b) n) g)
 unfolding streamOf imageIn
 stream-of b n g = stream-from (parse b) n g
+
+-- past the blocks there is no part
+pub part-past : (b : List ℕ) (n g : ℕ) → length (imageIn b .blocks) ≤ n → partThere (imageIn b) n g ≡ false
+part-past b n g h =
+    let x = imageIn b in
+    let e : blockAt x n ≡ block [] [] = List·getD-eq-default (x .blocks) (block [] []) h in
+    ap (λ (y : Block (List Entry)). isSome (partAt y g)) e
 
 pub stream-past : (b : List ℕ) (n g : ℕ) → length (imageIn b .blocks) ≤ n → [] ≡ streamOf b n g
 stream-past b n g h =

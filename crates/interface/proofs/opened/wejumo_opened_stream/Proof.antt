@@ -1,9 +1,12 @@
 -- Past the blocks there is no part.
 -- Assumes nothing.
+use Prim.Native.Nat.{_≤_}
 use mathlib.Core.Path.{sym, _∙_}
+use lib.ListN.{length}
 use native.Mathlib.Omega.{arith}
-use Rattle.walk.specs.Walk.{BlockHere, PartHere}
-use Rattle.walk.proofs.PartLaws.{stream-of, stream-past}
+use Rattle.lists.proofs.SameLaws.{false-true}
+use Rattle.walk.specs.Walk.{imageIn, BlockHere, PartHere}
+use Rattle.walk.proofs.PartLaws.{stream-of, stream-past, part-past}
 use borrow.Author.Needs.{needs}
 use Rattle.interface.proofs.opened.wejumo_opened_stream.Statement.{statement}
 use Rattle.interface.proofs.opened.wejumo_opened_stream.Tie as tie
@@ -16,11 +19,14 @@ found : (c : tie.After-part-in) → PartHere (c .part-in .result .from) (c .part
     (c .before .before .before .before .before .args .block) (c .before .before .before .before .before .args .signal) (c .before .before .before .before .before .args .image .now)
 found c = c .part-in .ensures (c .before .before .before .before .before .args .block) (standing (c .before))
 
+past : (c : tie.Then1) → length (imageIn (c .before .before .before .args .image .now) .blocks) ≤ c .before .before .before .args .block
+past c = omega (arith, c .if1 .taken, c .before .block-count .ensures)
+
 block-count-requires : tie.Need-block-count-requires
 block-count-requires c κs = search needs
 
 returns : tie.Need-returns
-returns c = let a = c .before .before .before .args in (stream-past (a .image .now) (a .block) (a .signal) (omega (arith, c .if1 .taken, c .before .block-count .ensures)), omega arith)
+returns c = let a = c .before .before .before .args in (stream-past (a .image .now) (a .block) (a .signal) (past c), omega arith, λ o t. false-true (sym (part-past (a .image .now) (a .block) (a .signal) (past c)) ∙ t))
 
 block-start-requires : tie.Need-block-start-requires
 block-start-requires c κs = search needs
@@ -32,7 +38,7 @@ sub-t7 : tie.Need-sub-t7
 sub-t7 c = found (c .before) .ordered
 
 returns-2 : tie.Need-returns-2
-returns-2 c = let a = c .before .before .before .before .before .before .args in let w = found (c .before) in (w .stream ∙ sym (stream-of (a .image .now) (a .block) (a .signal)), omega (arith, w .ordered, w .inside))
+returns-2 c = let a = c .before .before .before .before .before .before .args in let w = found (c .before) in (w .stream ∙ sym (stream-of (a .image .now) (a .block) (a .signal)), omega (arith, w .ordered, w .inside), λ o t. w .begin t)
 
 pub wejumo-opened-stream-spec : {M : Type 1} → statement M
 wejumo-opened-stream-spec =
