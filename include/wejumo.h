@@ -263,7 +263,7 @@ wejumo_load_answer wejumo_load(const uint8_t *image, size_t image_length, uint32
 wejumo_table_answer wejumo_table(const uint8_t *image, size_t image_length,
                                  uint64_t *out, size_t out_length);
 
-/* A place in the image where the bytes of a signal's stream in a block stand, without its class byte. Of length 0 where the opener refuses, the block or
+/* The place of a signal's stream of a block in the image, after its class byte. Of length 0 where the opener refuses, the block or
  * the signal does not exist, or it has no changes there. */
 wejumo_part wejumo_stream(const uint8_t *image, size_t image_length, uint32_t block, uint32_t signal);
 
