@@ -41,11 +41,20 @@ pub fn put_times(tail: &mut [u8], at: usize, times: &[u64], held: usize)
     }
 }
 
-// Copies n bytes of src from a place on.
+// Copies n bytes of src from a place on. Most records have one byte or two, for which a loop is dear.
 fn copy_bytes(tail: &mut [u8], to: usize, src: &[u8], from: usize, n: usize)
     requires { ⌜ (to + n ≤ length (now tail)) × (from + n ≤ length (now src)) ⌝ }
     ensures { λ _. ⌜ now (tail .exit) ≡ sets (now (tail .entry)) to (take n (drop from (now (src .entry)))) ⌝ }
 {
+    if n == 1 {
+        tail[to] = src[from];
+        return;
+    }
+    if n == 2 {
+        tail[to] = src[from];
+        tail[to + 1] = src[from + 1];
+        return;
+    }
     let mut i = 0;
     while i < n {
         tail[to + i] = src[from + i];

@@ -15,11 +15,13 @@ use lib.ListN.{length, take, drop, length-append, length-take, length-drop}
 use lib.Seq.{length-take-le}
 use Rattle.lists.specs.Choice.{pick, isSome}
 use Rattle.numbers.specs.LittleEndian.{unle}
-use Rattle.recording.specs.Work.{Item, item, sizeAt, itemsOf, gather}
+use Rattle.recording.specs.Work.{Item, item, signalAt, sizeAt, itemsOf, gather}
 use Rattle.work.specs.Measure.{partLength, dataLength, measured}
-use Rattle.work.specs.Counting.{total, sum, sign, changed, fresh, scanned, records, orNone}
-use Rattle.work.specs.declared.Measured.the-variants.{Data, Damaged}
-use Rattle.work.proofs.WorkLaws.{Below, withFirst, at-place, turn-whole, items-below, items-wider}
+use Rattle.work.specs.Counting.{total, sum, sign, changed, fresh, scanned, orNone}
+use Rattle.work.specs.declared.Measured.the-variants as measure
+use Rattle.work.specs.declared.Scanned.{Scanned}
+use Rattle.work.specs.declared.Scanned.the-variants.{Sums, Damaged}
+use Rattle.work.proofs.WorkLaws.{Below, withFirst, at-place, turn-whole, items-below}
 use Rattle.work.proofs.SumLaws.{sum-same, sum-one, sum-add, sum-plus, sum-le, sum-zero, sum-shift}
 
 -- ---- one record more
@@ -78,13 +80,13 @@ data-length n is h =
 
 -- ---- counting by windows
 
-pub changed-none : (is : List Item) → changed 0 0 is ≡ 0
+pub changed-none : (g : ℕ) (is : List Item) → changed g 0 is ≡ 0
 unfolding changed sum
-changed-none is = refl
+changed-none g is = refl
 
-pub changed-more : (b n : ℕ) (is : List Item) → changed 0 (b + n) is ≡ changed 0 b is + changed b n is
+pub changed-more : (g b n : ℕ) (is : List Item) → changed g (b + n) is ≡ changed g b is + changed (g + b) n is
 unfolding changed
-changed-more b n is = sum-add (λ j. sign (length (gather j is))) 0 b n ∙ simp zero-add
+changed-more g b n is = sum-add (λ j. sign (length (gather j is))) g b n
 
 sign-le : (x : ℕ) → sign x ≤ 1
 sign-le zero = omega arith
@@ -95,14 +97,19 @@ unfolding changed
 changed-le g n is = sum-le (λ j. sign (length (gather j is))) g n (λ j. sign-le (length (gather j is)))
 
 -- past the last signal there is nothing to count
-pub changed-end : (n b : ℕ) (is : List Item) → Below n is → n ≤ b → changed 0 b is ≡ changed 0 n is
-changed-end n b is h l =
+pub changed-end : (s g n b : ℕ) (is : List Item) → Below s is → s ≤ g + n → n ≤ b → changed g b is ≡ changed g n is
+changed-end s g n b is h k l =
     let e : b ≡ n + (b - n) = omega arith in
-    let z = changed-zero in
-    ap (λ (x : ℕ). changed 0 x is) e ∙ changed-more n (b - n) is ∙ ap (λ (x : ℕ). changed 0 n is + x) z ∙ add-zero (changed 0 n is)
+    ap (λ (x : ℕ). changed g x is) e ∙ changed-more g n (b - n) is ∙ ap (λ (x : ℕ). changed g n is + x) changed-zero ∙ add-zero (changed g n is)
   where
-    changed-zero : changed n (b - n) is ≡ 0
-    changed-zero = unfold changed in sum-zero (λ j. sign (length (gather j is))) n (b - n) (λ j k. ap (λ (s : List ℕ). sign (length s)) (gather-past n j is h k))
+    changed-zero : changed (g + n) (b - n) is ≡ 0
+    changed-zero =
+        unfold changed in
+        sum-zero (λ j. sign (length (gather j is))) (g + n) (b - n) (λ j q. ap (λ (s : List ℕ). sign (length s)) (gather-past s j is h (omega arith)))
+
+-- the first window and those after it
+changed-windows : (n : ℕ) (is : List Item) → Below n is → changed 0 65536 is + changed 65536 (n - 65536) is ≡ changed 0 n is
+changed-windows n is h = sym (changed-more 0 65536 (n - 65536) is) ∙ changed-end n 0 n (65536 + (n - 65536)) is h (omega arith) (omega arith)
 
 -- ---- one window, a record at a time
 
@@ -175,37 +182,49 @@ fresh-first m m' base s b is l u p h k =
     other : (j : ℕ) → (j ≡ s - base → ⊥) → pick (m j) 0 (sign (length (gather (base + j) (item s b ∷ is)))) ≡ pick (m' j) 0 (sign (length (gather (base + j) is)))
     other j q = rw (k j, ne-eqb j (s - base) q, gather-other (base + j) s b is (λ e. q (omega arith))) refl
 
--- a turn of the walk of one window, past the record of s with z bytes at p
-pub count-turn : (m m' : ℕ → Bool) (base p s z r : ℕ) (w : List ℕ) (is rest : List Item) → s ≡ unle (take 4 (drop p w)) → z ≡ unle (take 4 (drop (p + 4) w))
-    → p + 8 + z ≤ length w → is ≡ item (unle (take 4 (drop p w))) (take (unle (take 4 (drop (p + 4) w))) (drop (p + 8) w)) ∷ rest
-    → ((stream : List ℕ) (rs : List Item) → length stream ≡ z → r + fresh m' base rs ≡ fresh m base (item s stream ∷ rs))
-    → r + fresh m' base rest ≡ fresh m base is
-count-turn m m' base p s z r w is rest es ez b e h =
-    let inside : z ≤ length (drop (p + 8) w) = rw length-drop (omega arith) in
-    h (take z (drop (p + 8) w)) rest (length-take-le z (drop (p + 8) w) inside) ∙ ap (fresh m base) (rw (es, ez) (sym e))
+-- ---- the pass over the work
 
--- ---- the walk that looks for damage
+-- what is found at last: the bytes and signals so far, with what the rest brings of both, those signals not counted that are in the set m
+abbrev pub onward : (m : ℕ → Bool) (base bytes signals : ℕ) → Option (List Item) → Scanned
+onward m base a c none = Damaged
+onward m base a c (some is) = Sums (a + total is) (c + fresh m base is)
 
-scan-first : (a : ℕ) (w : List ℕ) (o : Option (List Item)) → 8 + sizeAt w ≤ length w → scanned a (withFirst w o) ≡ scanned (a + sizeAt w) o
+pub onward-start : (m : ℕ → Bool) (base : ℕ) (o : Option (List Item)) → ((i : ℕ) → m i ≡ false) → scanned base o ≡ onward m base 0 0 o
+onward-start m base none h = refl
+onward-start m base (some is) h = rw (zero-add (total is), zero-add (fresh m base is), fresh-none m base is h) refl
+
+pub onward-end : (m : ℕ → Bool) (base a c : ℕ) → onward m base a c (some []) ≡ Sums a c
 unfolding total
-scan-first a w none h = refl
-scan-first a w (some rs) h = ap Data (omega (arith, length-take (sizeAt w) (drop 8 w), length-drop 8 w))
+onward-end m base a c = rw (fresh-end m base, add-zero a, add-zero c) refl
 
--- a turn past a whole record of size z
-pub scan-turn : (k n p a z : ℕ) (w : List ℕ) → z ≡ unle (take 4 (drop (p + 4) w)) → p + 8 ≤ length w → p + 8 + z ≤ length w
-    → unle (take 4 (drop p w)) < n → length w - p ≤ k
-    → scanned a (itemsOf k n (drop p w)) ≡ scanned (a + z) (itemsOf (k - 1) n (drop (p + 8 + z) w))
-scan-turn k n p a z w e h b l f =
-    let q = at-place p w in
-    let inside : 8 + sizeAt (drop p w) ≤ length (drop p w) = rw (length-drop, q .size, ← e) (omega arith) in
-    let body : p + 8 + unle (take 4 (drop (p + 4) w)) ≤ length w = rw (← e) b in
-    ap (scanned a) (turn-whole k n p w h body l f)
-    ∙ scan-first a (drop p w) (itemsOf (k - 1) n (drop (p + 8 + unle (take 4 (drop (p + 4) w))) w)) inside
-    ∙ rw (q .size, e) refl
+-- what a record of the signal s with z bytes counts, which leaves the set m'
+abbrev pub Counts : (m m' : ℕ → Bool) (base s z r : ℕ) → Type 0
+Counts m m' base s z r = (stream : List ℕ) (rest : List Item) → length stream ≡ z → r + fresh m' base rest ≡ fresh m base (item s stream ∷ rest)
 
-pub scan-end : (a : ℕ) → scanned a (some []) ≡ Data a
+onward-first : (m m' : ℕ → Bool) (base a c r : ℕ) (w : List ℕ) (o : Option (List Item)) → 8 + sizeAt w ≤ length w
+    → Counts m m' base (signalAt w) (sizeAt w) r → onward m base a c (withFirst w o) ≡ onward m' base (a + sizeAt w) (c + r) o
 unfolding total
-scan-end a = ap Data (add-zero a)
+onward-first m m' base a c r w none h q = refl
+onward-first m m' base a c r w (some rs) h q =
+    let b : List ℕ = take (sizeAt w) (drop 8 w) in
+    let l : length b ≡ sizeAt w = length-take-le (sizeAt w) (drop 8 w) (rw length-drop (omega arith)) in
+    let x : a + (length b + total rs) ≡ a + sizeAt w + total rs = omega arith in
+    let y : c + fresh m base (item (signalAt w) b ∷ rs) ≡ c + r + fresh m' base rs = omega (arith, q b rs l) in
+    rw (x, y) refl
+
+-- a turn past a whole record of the signal s, of size z
+pub onward-turn : (m m' : ℕ → Bool) (k n p base a c s z r : ℕ) (w : List ℕ) → s ≡ unle (take 4 (drop p w)) → z ≡ unle (take 4 (drop (p + 4) w))
+    → p + 8 ≤ length w → p + 8 + z ≤ length w → s < n → length w - p ≤ k → Counts m m' base s z r
+    → onward m base a c (itemsOf k n (drop p w)) ≡ onward m' base (a + z) (c + r) (itemsOf (k - 1) n (drop (p + 8 + z) w))
+onward-turn m m' k n p base a c s z r w es ez h b l f q =
+    let t = at-place p w in
+    let inside : 8 + sizeAt (drop p w) ≤ length (drop p w) = rw (length-drop, t .size, ← ez) (omega arith) in
+    let counts : Counts m m' base (signalAt (drop p w)) (sizeAt (drop p w)) r = rw (t .size, ← ez, ← es) q in
+    let body : p + 8 + unle (take 4 (drop (p + 4) w)) ≤ length w = rw (← ez) b in
+    let below : unle (take 4 (drop p w)) < n = rw (← es) l in
+    ap (onward m base a c) (turn-whole k n p w h body below f)
+    ∙ onward-first m m' base a c r (drop p w) (itemsOf (k - 1) n (drop (p + 8 + unle (take 4 (drop (p + 4) w))) w)) inside counts
+    ∙ rw (t .size, ez) refl
 
 -- ---- the records of work that divides
 
@@ -213,28 +232,31 @@ pub records-there : (o : Option (List Item)) → isSome o ≡ true → o ≡ som
 records-there none h = let z : _≡_ {A = ℕ} 0 1 = cc in absurd (omega arith)
 records-there (some is) h = refl
 
--- the bound on the numbers does not matter where they are below it
-pub records-wider : (n : ℕ) (w : List ℕ) → n ≤ 4294967296 → isSome (itemsOf (length w) n w) ≡ true → records w ≡ some (orNone (itemsOf (length w) n w))
-records-wider n w l h = items-wider (length w) n 4294967296 w (orNone (itemsOf (length w) n w)) l (records-there (itemsOf (length w) n w) h)
-
 pub records-below : (n : ℕ) (w : List ℕ) → isSome (itemsOf (length w) n w) ≡ true → Below n (orNone (itemsOf (length w) n w))
 records-below n w h = items-below (length w) n w (orNone (itemsOf (length w) n w)) (records-there (itemsOf (length w) n w) h)
 
 -- ---- the answer
 
-pub scan-divides : (x : ℕ) (o : Option (List Item)) → Data x ≡ scanned 0 o → isSome o ≡ true
-scan-divides x none e = let z : _≡_ {A = ℕ} 0 1 = cc in absurd (omega arith)
-scan-divides x (some is) e = refl
+pub scan-divides : (x y base : ℕ) (o : Option (List Item)) → Sums x y ≡ scanned base o → isSome o ≡ true
+scan-divides x y base none e = let z : _≡_ {A = ℕ} 0 1 = cc in absurd (omega arith)
+scan-divides x y base (some is) e = refl
 
-pub scan-total : (x : ℕ) (o : Option (List Item)) → Data x ≡ scanned 0 o → x ≡ total (orNone o)
-scan-total x none e = let z : _≡_ {A = ℕ} 0 1 = cc in absurd (omega arith)
-scan-total x (some is) e = let q : x ≡ 0 + total is = cc in omega arith
+pub scan-sums : (x y base : ℕ) (o : Option (List Item)) → Sums x y ≡ scanned base o → (x ≡ total (orNone o)) × (y ≡ changed base 65536 (orNone o))
+scan-sums x y base none e = let z : _≡_ {A = ℕ} 0 1 = cc in absurd (omega arith)
+scan-sums x y base (some is) e = (cc, cc)
 
-pub measured-data : (n x y : ℕ) (o : Option (List Item)) → Data x ≡ scanned 0 o → y ≡ changed 0 n (orNone o) → Below n (orNone o)
-    → Data (x + y) ≡ measured n o
-measured-data n x y none e f h = let z : _≡_ {A = ℕ} 0 1 = cc in absurd (omega arith)
-measured-data n x y (some is) e f h = let q : x ≡ total is = scan-total x (some is) e in rw (data-length n is h, q, f) refl
+pub scan-damaged : (base : ℕ) (o : Option (List Item)) → Damaged ≡ scanned base o → isSome o ≡ true → ⊥
+scan-damaged base none e h = let z : _≡_ {A = ℕ} 0 1 = cc in absurd (omega arith)
+scan-damaged base (some is) e h = let z : _≡_ {A = ℕ} 0 1 = cc in absurd (omega arith)
 
-pub measured-damaged : (n : ℕ) (o : Option (List Item)) → Damaged ≡ scanned 0 o → Damaged ≡ measured n o
+pub measured-data : (n x y z : ℕ) (o : Option (List Item)) → Sums x y ≡ scanned 0 o → z ≡ changed 65536 (n - 65536) (orNone o) → Below n (orNone o)
+    → measure.Data (x + y + z) ≡ measured n o
+measured-data n x y z none e f h = let z : _≡_ {A = ℕ} 0 1 = cc in absurd (omega arith)
+measured-data n x y z (some is) e f h =
+    let q = scan-sums x y 0 (some is) e in
+    let d : x + y + z ≡ dataLength 0 n is = omega (arith, q .0, q .1, f, changed-windows n is h, data-length n is h) in
+    rw d refl
+
+pub measured-damaged : (n : ℕ) (o : Option (List Item)) → Damaged ≡ scanned 0 o → measure.Damaged ≡ measured n o
 measured-damaged n none e = refl
 measured-damaged n (some is) e = let z : _≡_ {A = ℕ} 0 1 = cc in absurd (omega arith)

@@ -205,24 +205,3 @@ fits-all (suc k) n (x ∷ w) =
 -- the streams and the eight bytes before each lie in the work
 pub items-bytes : (k n : ℕ) (w : List ℕ) (is : List Item) → itemsOf k n w ≡ some is → total is + 8 * length is ≤ length w
 items-bytes k n w is e = where-some (Fits w) (itemsOf k n w) (fits-all k n w) e
-
-wider-all : (k n m : ℕ) (w : List ℕ) → n ≤ m → Where (λ rs. itemsOf k m w ≡ some rs) (itemsOf k n w)
-unfolding itemsOf
-wider-all zero n m [] l = refl
-wider-all zero n m (x ∷ w) l = tt
-wider-all (suc k) n m [] l = refl
-wider-all (suc k) n m (x ∷ w) l =
-    let s : List ℕ = x ∷ w in
-    let r : List ℕ = drop (8 + sizeAt s) s in
-    where-pick (λ rs. itemsOf (suc k) m s ≡ some rs) (whole n s) (withFirst s (itemsOf k n r)) none
-    (λ t. where-bind (λ rs. itemsOf (suc k) m s ≡ some rs) (itemsOf k n r) _
-    (λ rs e.
-    let f = front n s t in
-    let g : whole m s ≡ true = front-whole m s (record { head = f .head; body = f .body; below = omega (arith, f .below) }) in
-    let ih = where-some (λ rs. itemsOf k m r ≡ some rs) (itemsOf k n r) (wider-all k n m r l) e in
-    rw (g, ih) refl))
-    (λ t. tt)
-
--- where the numbers are below n, a larger bound changes nothing
-pub items-wider : (k n m : ℕ) (w : List ℕ) (is : List Item) → n ≤ m → itemsOf k n w ≡ some is → itemsOf k m w ≡ some is
-items-wider k n m w is l e = where-some (λ rs. itemsOf k m w ≡ some rs) (itemsOf k n w) (wider-all k n m w l) e

@@ -6,9 +6,9 @@ use mathlib.Core.List.{List, [], _∷_}
 use mathlib.Core.Option.{Option, some, none}
 use lib.ListN.{length}
 use Rattle.lists.specs.Choice.{pick}
-use Rattle.recording.specs.Work.{Item, itemsOf, gather}
-use Rattle.work.specs.declared.Measured.{Measured}
-use Rattle.work.specs.declared.Measured.the-variants.{Data, Damaged}
+use Rattle.recording.specs.Work.{Item, gather}
+use Rattle.work.specs.declared.Scanned.{Scanned}
+use Rattle.work.specs.declared.Scanned.the-variants.{Sums, Damaged}
 
 -- the bytes of all streams
 unfoldable pub total : List Item → ℕ
@@ -32,14 +32,10 @@ changed g n is = sum (λ s. sign (length (gather s is))) g n
 unfoldable pub fresh : (m : ℕ → Bool) (base : ℕ) → List Item → ℕ
 fresh m base is = sum (λ i. pick (m i) 0 (sign (length (gather (base + i) is)))) 0 65536
 
--- the stream bytes of work that divides, with those before it
-abbrev pub scanned : (before : ℕ) → Option (List Item) → Measured
-scanned a none = Damaged
-scanned a (some is) = Data (a + total is)
-
--- the records of work that divides: every number of 32 bits is below 4,294,967,296
-abbrev pub records : List ℕ → Option (List Item)
-records w = itemsOf (length w) 4294967296 w
+-- what one pass finds of work that divides into records, and of work that does not
+abbrev pub scanned : (base : ℕ) → Option (List Item) → Scanned
+scanned base none = Damaged
+scanned base (some is) = Sums (total is) (changed base 65536 is)
 
 abbrev pub orNone : Option (List Item) → List Item
 orNone none = []
