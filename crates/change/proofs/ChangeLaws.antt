@@ -2,16 +2,15 @@
 -- Assumes nothing.
 use Prim.Native.Nat.{ℕ, zero, suc, _-_}
 use mathlib.Core.Path.{_≡_, refl, sym}
-use mathlib.Core.Bool.{Bool, true, false}
 use mathlib.Core.List.{List, [], _∷_}
 use lib.ListN.{length, getD, set}
-use Rattle.lists.specs.Choice.{pick}
 use Rattle.signal.specs.Content.{Given, Decoded, refuse, accept, decode}
 use Rattle.stream.specs.Stream.{changeBytes}
-use Rattle.recording.specs.Memory.{Memory, memory, After, after, recordAt, Tests, guarded, refused}
+use Rattle.recording.specs.Memory.{Memory, memory, After, recordAt, Tests, guarded, refused}
 use Rattle.recording.specs.Refusals.{openTests, earlyTests, signalTests, roomTests}
 use Rattle.recording.specs.Step.{changeBy, changeOf}
 use Rattle.change.specs.Found.{Found, foundRefused, foundDone, foundBy, foundOf, afterChange}
+use Rattle.change.proofs.FoundLaws.{picked-by, guarded-by}
 
 set-same : {A : Type 0} (l : List A) (g : ℕ) (d : A) → set l g (getD l g d) ≡ l
 set-same [] g d = refl
@@ -25,13 +24,8 @@ module _ (m : Memory) (g : ℕ) where
   refused-whole : (n : ℕ) → afterChange m g (stays n) ≡ refused m n
   refused-whole n = rw (set-same (m .records) g _) refl
 
-  picked-whole : (b : Bool) (x y : Found) {p q : After} → afterChange m g x ≡ p → afterChange m g y ≡ q → afterChange m g (pick b x y) ≡ pick b p q
-  picked-whole true x y e f = e
-  picked-whole false x y e f = f
-
   guarded-whole : (ts : Tests) (e : Found) {e′ : After} → afterChange m g e ≡ e′ → afterChange m g (guarded ts stays e) ≡ guarded ts (refused m) e′
-  guarded-whole [] e h = h
-  guarded-whole (t ∷ ts) e h = picked-whole (t .0) _ _ (refused-whole (t .1)) (guarded-whole ts e h)
+  guarded-whole ts e h = guarded-by (afterChange m g) ts stays e refused-whole h
 
   by-whole : (d : Decoded) → afterChange m g (foundBy (m .state) (recordAt m g) (m .work) g d) ≡ changeBy m g d
   unfolding foundBy
@@ -48,5 +42,5 @@ module _ (m : Memory) (g : ℕ) where
       sym
       (guarded-whole (openTests m) _
       (guarded-whole (earlyTests (m .state)) _
-      (picked-whole (m .state .skip) _ _ (rw (set-same (m .records) g _) refl)
+      (picked-by (afterChange m g) (m .state .skip) _ _ (rw (set-same (m .records) g _) refl)
       (guarded-whole (signalTests (m .state) (recordAt m g) g) _ (by-whole (decode (recordAt m g .kind) v))))))

@@ -1,18 +1,20 @@
--- What a change leaves, case by case, as the code meets the cases; and that it is `changeOf`.
+-- What a change leaves, stage by stage, as the code meets the stages.
 -- Assumes nothing.
 use Prim.Native.Nat.{ℕ, zero, suc, _+_, _-_, _≤_, _<_, max}
 use mathlib.Core.Path.{_≡_, refl, sym, ap, _∙_}
-use mathlib.Core.Bool.{Bool, true, false, _||_, not}
+use mathlib.Core.Bool.{Bool, true, false, _||_}
 use mathlib.Core.List.{List, [], _∷_}
 use native.Mathlib.Omega.{arith}
-use borrow.Author.Tests.{lt-ltb, le-ltb, le-leb, lt-leb, eq-eqb, ne-eqb}
-use lib.ListN.{length, getD, set}
+use native.Mathlib.Decide.{ℕ-discrete}
+use borrow.Author.Tests.{ltb-false, lt-ltb, le-ltb, le-leb, lt-leb, eq-eqb, ne-eqb}
+use lib.ListN.{length}
 use lib.Seq.{sets}
-use lib.Dec.{ltb, leb, eqb}
+use lib.Dec.{ltb, leb}
 use Rattle.lists.specs.Choice.{pick}
+use Rattle.lists.proofs.ChoiceLaws.{none-holds}
 use Rattle.value.specs.Class.{classNumber, statesOf}
 use Rattle.value.specs.declared.states.States.{States}
-use Rattle.value.specs.declared.states.States.the-variants.{Two, Nine}
+use Rattle.value.specs.declared.states.States.the-variants.{Nine}
 use Rattle.signal.specs.declared.kind.SignalEncoding.{SignalEncoding}
 use Rattle.signal.specs.declared.kind.SignalEncoding.the-variants.{BitVector, Real, Absent}
 use Rattle.signal.specs.declared.decode.ChangeValue.{ChangeValue}
@@ -21,70 +23,112 @@ use Rattle.signal.specs.Kind.{widthOf, knownKind, absent}
 use Rattle.signal.specs.Content.{Given, vcd, raw, real, Decoded, refuse, accept, contentOf, decode}
 use Rattle.signal.specs.Answer.{decodedAs}
 use Rattle.stream.specs.Stream.{changeBytes}
+use Rattle.stream.specs.Answer.{changeLength, saidBytes}
 use Rattle.recording.specs.declared.Encoder.{Encoder}
 use Rattle.recording.specs.declared.SignalRecord.{SignalRecord}
 use Rattle.recording.specs.declared.Answer.{Answer}
-use Rattle.recording.specs.Calls.{Reply, replyOf, say, recorded, skipped}
-use Rattle.recording.specs.Work.{item, itemBytes}
-use Rattle.recording.specs.Memory.{Memory, memory, After, after, recordAt, recordOf, Tests, first, guarded, refused}
-use Rattle.recording.specs.Refusals.{stateTests, openTests, earlyTests, signalTests, roomTests}
-use Rattle.recording.specs.Step.{skippedOne, changeBy, changeOf}
+use Rattle.recording.specs.Calls.{replyOf, say, recorded, skipped}
+use Rattle.recording.specs.Memory.{Tests, first, guarded}
+use Rattle.recording.specs.Refusals.{stateTests, earlyTests, roomTests}
+use Rattle.recording.specs.Step.{skippedOne}
 use Rattle.refusals.proofs.TestsLaws.{guarded-none, guarded-first}
-use Rattle.refusals.proofs.StateLaws.{state-positive}
-use Rattle.change.specs.Found.{Found, found, foundRefused, foundDone, foundBy, foundOf}
+use Rattle.refusals.proofs.StateLaws.{state-positive, sound}
+use Rattle.change.specs.declared.admission.Admission.{Admission}
+use Rattle.change.specs.declared.admission.Admission.the-variants as admission
+use Rattle.change.specs.declared.item.ItemStart.{ItemStart}
+use Rattle.change.specs.declared.item.ItemStart.the-variants as start
+use Rattle.change.specs.Found.{Found, found, working, risen, foundRefused, foundDone, foundBy, foundOf}
+use Rattle.change.specs.Stages.{admissionOf, startOf, begun}
+use Rattle.change.proofs.NotationLaws.{item-written, given-length}
 
-not-picked : {A : Type 0} (x y : A) (b : Bool) → b ≡ false → pick b x y ≡ y
-not-picked x y b e = rw e refl
+-- ---- a function of what the tests choose
+
+module _ {A B : Type 0} (f : A → B) where
+  pub picked-by : (b : Bool) (x y : A) {p q : B} → f x ≡ p → f y ≡ q → f (pick b x y) ≡ pick b p q
+  picked-by true x y e h = e
+  picked-by false x y e h = h
+
+  pub guarded-by : (ts : Tests) (x : ℕ → A) (y : A) {p : ℕ → B} {q : B} → ((n : ℕ) → f (x n) ≡ p n) → f y ≡ q → f (guarded ts x y) ≡ guarded ts p q
+  guarded-by [] x y e h = h
+  guarded-by (t ∷ ts) x y e h = picked-by (t .0) _ _ (e (t .1)) (guarded-by ts x y e h)
 
 -- ---- the tests before the value
 
-module _ (s : Encoder) (r : SignalRecord) (records times image : ℕ) (w : List ℕ) (g : ℕ) (v : Given) where
-  pub found-state : (first (stateTests s records times (length w) image) ≡ 0 → ⊥)
-      → foundOf s r records times image w g v ≡ foundRefused s r w (first (stateTests s records times (length w) image))
-  unfolding foundOf
-  found-state n = guarded-first (stateTests s records times (length w) image) (foundRefused s r w) _ n
+-- past the tests of the state and of the times
+abbrev signalled : Encoder → (signal : ℕ) → Admission
+signalled s g = pick (leb (s .signals) g) (admission.Refused 4) admission.Taken
 
-  abbrev heard : Found
-  heard =
-      pick (s .skip) (found (say skipped) (skippedOne s) r w)
-      (guarded (signalTests s r g) (foundRefused s r w) (foundBy s r w g (decode (r .kind) v)))
+abbrev pub heard : Encoder → (signal : ℕ) → Admission
+heard s g = pick (s .skip) admission.Skipped (signalled s g)
 
-  abbrev past : Found
-  past =
-      guarded (earlyTests s) (foundRefused s r w) heard
+module _ (s : Encoder) (records times work image g : ℕ) where
+  abbrev asked : Tests
+  asked = stateTests s records times work image
 
-  found-past : first (stateTests s records times (length w) image) ≡ 0 → foundOf s r records times image w g v ≡ past
-  unfolding foundOf
-  found-past z = guarded-none (stateTests s records times (length w) image) (foundRefused s r w) past (state-positive s records times (length w) image) z
+  pub admitted-state : (first asked ≡ 0 → ⊥) → admissionOf s records times work image g ≡ admission.Refused (first asked)
+  unfolding admissionOf
+  admitted-state n = guarded-first asked admission.Refused _ n
 
-  pub found-early : first (stateTests s records times (length w) image) ≡ 0 → s .held ≡ 0 → foundOf s r records times image w g v ≡ foundRefused s r w 3
-  found-early z h = found-past z ∙ rw (eq-eqb (s .held) 0 h) refl
+  admitted-past : first asked ≡ 0 → admissionOf s records times work image g ≡ guarded (earlyTests s) admission.Refused (heard s g)
+  unfolding admissionOf
+  admitted-past z = guarded-none asked admission.Refused _ (state-positive s records times work image) z
 
-  pub found-skip : first (stateTests s records times (length w) image) ≡ 0 → (s .held ≡ 0 → ⊥) → s .skip ≡ true
-      → foundOf s r records times image w g v ≡ found (say skipped) (skippedOne s) r w
-  found-skip z h k = found-past z ∙ rw (ne-eqb (s .held) 0 h, k) refl
+  pub admitted-early : first asked ≡ 0 → s .held ≡ 0 → admissionOf s records times work image g ≡ admission.Refused 3
+  admitted-early z h = admitted-past z ∙ rw (eq-eqb (s .held) 0 h) refl
 
-  pub found-above : first (stateTests s records times (length w) image) ≡ 0 → (s .held ≡ 0 → ⊥) → s .skip ≡ false → s .signals ≤ g
-      → foundOf s r records times image w g v ≡ foundRefused s r w 4
-  found-above z h k a = found-past z ∙ rw (ne-eqb (s .held) 0 h, k, le-leb (s .signals) g a) refl
+  pub admitted-timed : first asked ≡ 0 → (s .held ≡ 0 → ⊥) → admissionOf s records times work image g ≡ heard s g
+  admitted-timed z h = admitted-past z ∙ rw (ne-eqb (s .held) 0 h) refl
+
+-- what holds where the value is looked at
+pub record Ready (s : Encoder) (work : ℕ) : Type 0 where
+  pub timed : 0 < s .held
+  pub held : s .held ≤ 65535
+  pub worked : s .work ≤ work
+
+pub taken-ready : (s : Encoder) (records times work image g : ℕ) → admissionOf s records times work image g ≡ admission.Taken → Ready s work
+taken-ready s records times work image g e = by (ℕ-discrete (first (stateTests s records times work image)) 0) (ℕ-discrete (s .held) 0)
+  where
+    by : Dec (first (stateTests s records times work image) ≡ 0) → Dec (s .held ≡ 0) → Ready s work
+    by (no n) d = let q = admitted-state s records times work image g n in let z : _≡_ {A = ℕ} 0 1 = cc in absurd (omega arith)
+    by (yes z) (yes h) = let q = admitted-early s records times work image g z h in let z : _≡_ {A = ℕ} 0 1 = cc in absurd (omega arith)
+    by (yes z) (no h) =
+        let a = sound s records times work image z in
+        record { timed = omega arith; held = omega (arith, a .held, a .high); worked = a .worked }
+
+module _ (s : Encoder) (r : SignalRecord) (w : List ℕ) (g : ℕ) (v : Given) where
+  abbrev pub byAdmission : Admission → Found
+  byAdmission (admission.Refused n) = foundRefused s r w n
+  byAdmission admission.Skipped = found (say skipped) (skippedOne s) r w
+  byAdmission admission.Taken = foundBy s r w g (decode (r .kind) v)
 
   -- an absent signal is told by its value's refusal, which is 4 too
-  absent-decoded : (k : SignalEncoding) → pick (absent k) (foundRefused s r w 4) (foundBy s r w g (decode k v)) ≡ foundBy s r w g (decode k v)
+  absent-decoded : (k : SignalEncoding) → foundBy s r w g (decode k v) ≡ pick (absent k) (foundRefused s r w 4) (foundBy s r w g (decode k v))
   unfolding foundBy decode
   absent-decoded (BitVector x) = refl
   absent-decoded Real = refl
   absent-decoded Absent = by v
     where
-      by : (v : Given) → foundRefused s r w 4 ≡ foundBy s r w g (decode Absent v)
+      by : (v : Given) → foundBy s r w g (decode Absent v) ≡ foundRefused s r w 4
       by (vcd l) = refl
       by (raw c l) = refl
       by (real b) = refl
 
-  pub found-decoded : first (stateTests s records times (length w) image) ≡ 0 → (s .held ≡ 0 → ⊥) → s .skip ≡ false → g < s .signals
-      → foundOf s r records times image w g v ≡ foundBy s r w g (decode (r .kind) v)
-  found-decoded z h k a =
-      let timed : past ≡ heard = rw (ne-eqb (s .held) 0 h) refl in
-      found-past z ∙ timed ∙ not-picked _ _ (s .skip) k ∙ rw (lt-leb (s .signals) g a) (absent-decoded (r .kind))
+  by-signal : (b : Bool) → byAdmission (pick b (admission.Refused 4) admission.Taken)
+      ≡ guarded ((b || absent (r .kind), 4) ∷ []) (foundRefused s r w) (foundBy s r w g (decode (r .kind) v))
+  by-signal true = refl
+  by-signal false = absent-decoded (r .kind)
+
+  found-admitted : (records times image : ℕ) → byAdmission (admissionOf s records times (length w) image g) ≡ foundOf s r records times image w g v
+  unfolding admissionOf foundOf
+  found-admitted records times image =
+      guarded-by byAdmission (stateTests s records times (length w) image) _ _ (λ n. refl)
+      (guarded-by byAdmission (earlyTests s) admission.Refused (heard s g) (λ n. refl)
+      (picked-by byAdmission (s .skip) admission.Skipped (signalled s g) refl (by-signal (leb (s .signals) g))))
+
+  -- j is the answer that the code meets
+  pub found-after : (records times image : ℕ) {i j : Admission} → i ≡ admissionOf s records times (length w) image g → i ≡ j
+      → byAdmission j ≡ foundOf s r records times image w g v
+  found-after records times image e f = ap byAdmission (sym f ∙ e) ∙ found-admitted records times image
 
 -- ---- the value
 
@@ -93,10 +137,7 @@ unfolding foundBy
 found-refused s r w g (refuse m) {n} e = let q : m ≡ n = cc in rw q refl
 found-refused s r w g (accept a c) e = let z : _≡_ {A = ℕ} 0 1 = cc in absurd (omega arith)
 
-pub known-width : (k : SignalEncoding) → knownKind k ≡ leb (widthOf k) 65536
-known-width (BitVector w) = refl
-known-width Real = refl
-known-width Absent = refl
+-- ---- the record
 
 nine : (n : ℕ) → 2 ≤ n → statesOf n ≡ Nine
 nine zero h = absurd (omega arith)
@@ -120,27 +161,86 @@ unfolding foundBy
 found-written s r w g (refuse n) v t e = let z : _≡_ {A = ℕ} 0 1 = cc in absurd (omega arith)
 found-written s r w g (accept a c) v t e = let q : statesOf c ≡ t = cc in rw (max-states (classNumber (r .top)) c, q) refl
 
-module _ (s : Encoder) (r : SignalRecord) (w : List ℕ) (g : ℕ) (d : Decoded) (v : ChangeValue) (t : States) (said : decodedAs (r .kind) d ≡ Change v t) where
-  abbrev size : ℕ
-  size = length (changeBytes (r .kind) (s .held - 1 - r .index) (contentOf d))
+known-width : (k : SignalEncoding) → knownKind k ≡ leb (widthOf k) 65536
+known-width (BitVector w) = refl
+known-width Real = refl
+known-width Absent = refl
 
-  pub found-beyond : s .held - 1 < r .index → foundBy s r w g d ≡ foundRefused s r w 10
-  found-beyond h = found-written s r w g d v t said ∙ rw (lt-ltb (s .held - 1) (r .index) h) refl
+-- the tests of room, as the code finds the width and the length
+module _ (s : Encoder) (r : SignalRecord) (work : ℕ) (v : ChangeValue) where
+  pub start-beyond : s .held - 1 < r .index → start.Refused 10 ≡ startOf s r work v
+  unfolding startOf
+  start-beyond h = rw (lt-ltb (s .held - 1) (r .index) h) refl
 
-  pub found-wide : r .index ≤ s .held - 1 → 65536 < widthOf (r .kind) → foundBy s r w g d ≡ foundRefused s r w 10
-  found-wide h k = found-written s r w g d v t said ∙ rw (le-ltb (s .held - 1) (r .index) h, known-width (r .kind), lt-leb (widthOf (r .kind)) 65536 k) refl
+  pub start-wide : {x : ℕ} → x ≡ widthOf (r .kind) → r .index ≤ s .held - 1 → 65536 < x → start.Refused 10 ≡ startOf s r work v
+  unfolding startOf
+  start-wide {x} p h k = rw (le-ltb (s .held - 1) (r .index) h, known-width (r .kind), ← p, lt-leb x 65536 k) refl
 
-  pub found-full : {n : ℕ} → r .index ≤ s .held - 1 → widthOf (r .kind) ≤ 65536 → n ≡ 8 + size → length w - s .work < n → foundBy s r w g d ≡ foundRefused s r w 7
-  found-full {n} h k e f =
-      let more : length w < s .work + (8 + size) = omega arith in
-      found-written s r w g d v t said
-      ∙ rw (le-ltb (s .held - 1) (r .index) h, known-width (r .kind), le-leb (widthOf (r .kind)) 65536 k, lt-ltb (length w) (s .work + (8 + size)) more) refl
+  module _ {x n : ℕ} (p : x ≡ widthOf (r .kind)) (q : n ≡ changeLength x (s .held - 1 - r .index) v) (h : r .index ≤ s .held - 1) (k : x ≤ 65536) where
+    start-known : startOf s r work v ≡ pick (ltb work (s .work + (8 + n))) (start.Refused 7) (start.Length n)
+    unfolding startOf
+    start-known = rw (le-ltb (s .held - 1) (r .index) h, known-width (r .kind), ← p, le-leb x 65536 k, ← q) refl
 
-  pub found-done : r .index ≤ s .held - 1 → widthOf (r .kind) ≤ 65536 → s .work + (8 + size) ≤ length w
-      → foundBy s r w g d ≡ foundDone s r w g (changeBytes (r .kind) (s .held - 1 - r .index) (contentOf d)) (classNumber t)
-  found-done h k f =
-      found-written s r w g d v t said
-      ∙ rw (le-ltb (s .held - 1) (r .index) h, known-width (r .kind), le-leb (widthOf (r .kind)) 65536 k, le-ltb (length w) (s .work + (8 + size)) f) refl
+    pub start-full : work - s .work < 8 + n → start.Refused 7 ≡ startOf s r work v
+    start-full f = let g : work < s .work + (8 + n) = omega arith in sym (start-known ∙ rw (lt-ltb work (s .work + (8 + n)) g) refl)
+
+    pub start-done : s .work + (8 + n) ≤ work → start.Length n ≡ startOf s r work v
+    start-done f = sym (start-known ∙ rw (le-ltb work (s .work + (8 + n)) f) refl)
+
+-- what holds where the record of n stream bytes begins
+pub record Room (s : Encoder) (r : SignalRecord) (work : ℕ) (stream : List ℕ) (n : ℕ) : Type 0 where
+  pub gap : r .index ≤ s .held - 1
+  pub sized : n ≡ length stream
+  pub fits : s .work + (8 + n) ≤ work
+  pub small : s .work + (8 + n) < 18446744073709551616
+
+room-left : (a b : Bool) (m n : ℕ) → guarded ((a, 10) ∷ (b, 7) ∷ []) start.Refused (start.Length m) ≡ start.Length n → (a ≡ false) × (b ≡ false) × (m ≡ n)
+room-left true b m n e = let z : _≡_ {A = ℕ} 0 1 = cc in absurd (omega arith)
+room-left false true m n e = let z : _≡_ {A = ℕ} 0 1 = cc in absurd (omega arith)
+room-left false false m n e = (refl, refl, (cc))
+
+pub item-room : (s : Encoder) (r : SignalRecord) (work : ℕ) (x : Given) (v : ChangeValue) (t : States) {i : ItemStart} {n : ℕ}
+    → decodedAs (r .kind) (decode (r .kind) x) ≡ Change v t → i ≡ startOf s r work v → i ≡ start.Length n → work < 18446744073709551616
+    → Room s r work (saidBytes (r .kind) (s .held - 1 - r .index) x) n
+unfolding startOf
+item-room s r work x v t {i} {n} said e f m =
+    let p = room-left _ _ _ n (sym e ∙ f) in
+    let h : s .work + (8 + n) ≤ work = rw (← (p .2)) (ltb-false _ _ (p .1)) in
+    record {
+      gap = ltb-false _ _ (none-holds _ _ (p .0) .0);
+      sized = sym (p .2) ∙ sym (given-length (r .kind) (s .held - 1 - r .index) x v (t, said));
+      fits = h;
+      small = omega arith;
+    }
+
+-- the tests of room come to the same by the answer's length as by the bytes
+module _ (s : Encoder) (r : SignalRecord) (w : List ℕ) (g : ℕ) (x : Given) (v : ChangeValue) (t : States)
+    (said : decodedAs (r .kind) (decode (r .kind) x) ≡ Change v t) where
+  abbrev stream : List ℕ
+  stream = saidBytes (r .kind) (s .held - 1 - r .index) x
+
+  abbrev byStart : ItemStart → Found
+  byStart (start.Refused k) = foundRefused s r w k
+  byStart (start.Length n) = foundDone s r w g stream (classNumber t)
+
+  found-started : byStart (startOf s r (length w) v) ≡ foundBy s r w g (decode (r .kind) x)
+  unfolding startOf
+  found-started =
+      let n = changeLength (widthOf (r .kind)) (s .held - 1 - r .index) v in
+      guarded-by byStart (roomTests s r (length w) n) start.Refused (start.Length n) (λ k. refl) refl
+      ∙ rw (← (given-length (r .kind) (s .held - 1 - r .index) x v (t, said))) (sym (found-written s r w g (decode (r .kind) x) v t said))
+
+  -- what is left where the record is refused, and where all of it is written
+  pub item-refused : {i : ItemStart} {k : ℕ} (w′ : List ℕ) → i ≡ startOf s r (length w) v → w′ ≡ begun w (s .work) g i → i ≡ start.Refused k
+      → foundRefused s r w′ k ≡ foundBy s r w g (decode (r .kind) x)
+  item-refused {i} {k} w′ e h f =
+      ap (λ (u : List ℕ). foundRefused s r u k) (h ∙ ap (begun w (s .work) g) f) ∙ ap byStart (sym f ∙ e) ∙ found-started
+
+  pub item-done : {i : ItemStart} {n : ℕ} (w₁ w₂ : List ℕ) → Room s r (length w) stream n
+      → i ≡ startOf s r (length w) v → w₁ ≡ begun w (s .work) g i → i ≡ start.Length n → w₂ ≡ sets w₁ (s .work + 8) stream
+      → found (say recorded) (working s (8 + n)) (risen s r (classNumber t)) w₂ ≡ foundBy s r w g (decode (r .kind) x)
+  item-done {i} {n} w₁ w₂ z e h f b =
+      rw (item-written w w₁ w₂ (s .work) g n stream (z .sized) (h ∙ ap (begun w (s .work) g) f) b, z .sized) (ap byStart (sym f ∙ e) ∙ found-started)
 
 -- what the code answers, part by part
 pub answered : (a b : Answer) (s s′ : Encoder) (k k′ : SignalRecord) (w w′ : List ℕ) → a ≡ b → s ≡ s′ → k ≡ k′ → w ≡ w′

@@ -1,8 +1,8 @@
--- Laws of values in their notations.
+-- Laws of a value's change by its notation: its bytes, their length, and its record in the work buffer.
 -- Assumes nothing.
 use Prim.Native.Nat.{ℕ, _+_, _≤_}
 use mathlib.Core.Path.{_≡_, refl, _∙_}
-use mathlib.Core.List.{List, _++_}
+use mathlib.Core.List.{List, _++_, append-assoc}
 use native.Mathlib.Omega.{arith}
 use lib.ListN.{length, length-append}
 use lib.Seq.{sets}
@@ -17,14 +17,11 @@ use Rattle.signal.specs.declared.kind.SignalEncoding.the-variants.{BitVector, R
 use Rattle.signal.specs.declared.decode.ChangeValue.{ChangeValue}
 use Rattle.signal.specs.declared.decode.ChangeValue.the-variants as signal
 use Rattle.signal.specs.Kind.{widthOf}
-use Rattle.signal.specs.Content.{bits, vcd, raw, real, decode}
+use Rattle.signal.specs.Content.{bits, Given, vcd, raw, real, decode}
 use Rattle.stream.specs.Stream.{changeBytes}
 use Rattle.stream.specs.Answer.{changeNumber, tailLength, changeLength, Says, saidBytes}
 use Rattle.stream.proofs.SaysLaws.{says-length}
 use Rattle.recording.specs.Work.{item, itemBytes}
-use Rattle.change.specs.declared.notation.Value.{Value}
-use Rattle.change.specs.declared.notation.Value.the-variants as value
-use Rattle.change.specs.Found.{givenOf}
 
 -- only a real's signal hears a real
 pub real-said : (k : SignalEncoding) (d b : ℕ) (v : ChangeValue) → Says k (real b) v → saidBytes k d (real b) ≡ changeBytes Real d (bits b)
@@ -33,21 +30,24 @@ real-said (BitVector w) d b v (t, e) = let z : _≡_ {A = ℕ} 0 1 = cc in absur
 real-said Real d b v s = refl
 real-said Absent d b v (t, e) = let z : _≡_ {A = ℕ} 0 1 = cc in absurd (omega arith)
 
--- the parts of a record, written one after the other
-pub item-written : (w w₁ w₂ w₃ : List ℕ) (at g n body next : ℕ) (b : List ℕ) → n ≡ length b
-    → body ≡ at + 4 → w₁ ≡ sets w at (le 4 g) → next ≡ body + 4 → w₂ ≡ sets w₁ body (le 4 n) → w₃ ≡ sets w₂ next b
-    → w₃ ≡ sets w at (itemBytes (item g b))
-item-written w w₁ w₂ w₃ at g n body next b e p h q i j = j ∙ rw (q, i, h, p, e, sets-append (le 4 g) (le 4 (length b) ++ b) w at, sets-append (le 4 (length b)) b (sets w at (le 4 g)) (at + length (le 4 g)), length-le 4 g, length-le 4 (length b)) refl
+-- the two numbers of a record's head, written one after the other
+pub head-written : (w w₁ w₂ : List ℕ) (at g n next : ℕ) → next ≡ at + 4 → w₁ ≡ sets w at (le 4 g) → w₂ ≡ sets w₁ next (le 4 n)
+    → w₂ ≡ sets w at (le 4 g ++ le 4 n)
+head-written w w₁ w₂ at g n next p h i = i ∙ rw (h, p, sets-append (le 4 g) (le 4 n) w at, length-le 4 g) refl
+
+-- a record's head and its stream bytes, written one after the other
+pub item-written : (w w₁ w₂ : List ℕ) (at g n : ℕ) (b : List ℕ) → n ≡ length b → w₁ ≡ sets w at (le 4 g ++ le 4 n) → w₂ ≡ sets w₁ (at + 8) b
+    → w₂ ≡ sets w at (itemBytes (item g b))
+item-written w w₁ w₂ at g n b e h i = i ∙ rw (h, e, ← (append-assoc (le 4 g) (le 4 (length b)) b), sets-append (le 4 g ++ le 4 (length b)) b w at, length-append (le 4 g) (le 4 (length b)), length-le 4 g, length-le 4 (length b)) refl
 
 -- the length of a value's change, known from decoding's answer
-pub value-length : (k : SignalEncoding) (d : ℕ) (x : Value) (s : List ℕ) (v : ChangeValue) → Says k (givenOf x s) v
-    → length (saidBytes k d (givenOf x s)) ≡ changeLength (widthOf k) d v
+pub given-length : (k : SignalEncoding) (d : ℕ) (x : Given) (v : ChangeValue) → Says k x v → length (saidBytes k d x) ≡ changeLength (widthOf k) d v
 unfolding decode changeBytes
-value-length k d value.Vcd s v h = says-length k d (vcd s) v tt h
-value-length k d (value.Raw c) s v h = says-length k d (raw c s) v tt h
-value-length (BitVector w) d (value.Real b) s v (t, e) = let z : _≡_ {A = ℕ} 0 1 = cc in absurd (omega arith)
-value-length Real d (value.Real b) s v (t, e) = let q : signal.Real b ≡ v = cc in rw (← q, length-append (lebOf d) (le 8 b), length-le 8 b) refl
-value-length Absent d (value.Real b) s v (t, e) = let z : _≡_ {A = ℕ} 0 1 = cc in absurd (omega arith)
+given-length k d (vcd s) v h = says-length k d (vcd s) v tt h
+given-length k d (raw c s) v h = says-length k d (raw c s) v tt h
+given-length (BitVector w) d (real b) v (t, e) = let z : _≡_ {A = ℕ} 0 1 = cc in absurd (omega arith)
+given-length Real d (real b) v (t, e) = let q : signal.Real b ≡ v = cc in rw (← q, length-append (lebOf d) (le 8 b), length-le 8 b) refl
+given-length Absent d (real b) v (t, e) = let z : _≡_ {A = ℕ} 0 1 = cc in absurd (omega arith)
 
 -- a change of a known kind is short
 tail-short : (w : ℕ) (v : ChangeValue) → w ≤ 65536 → tailLength w v ≤ 32768

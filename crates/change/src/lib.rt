@@ -2,30 +2,40 @@
 //
 // All is decided on one record by value, so that it does not matter how records are stored. The contracts cite specs/Found.antt, which
 // is `changeOf` of crate recording for one record.
+//
+// Each notation has its own path from the tests to the bytes, so that each call compiles into one function.
+use crate::admission::Admission;
+use crate::admission::admitted;
+use crate::item::ItemStart;
+use crate::item::begin_item;
 use crate::notation::Value;
-use crate::notation::decode_value;
-use crate::notation::put_item;
 use recording::Answer;
 use recording::Encoder;
 use recording::SignalRecord;
 use recording::SignalRef;
 use refusals::Lengths;
-use refusals::state_refusal;
 use signal::decode::ChangeValue;
 use signal::decode::DecodedChange;
-use stream::write::change_len;
+use signal::decode::decode_raw;
+use signal::decode::decode_real;
+use signal::decode::decode_vcd;
+use stream::write::put_raw_change;
+use stream::write::put_real_change;
+use stream::write::put_vcd_change;
 use value::states::States;
 ghost use mathlib.Core.Path.{_≡_};
 ghost use Prim.Native.Nat.{_+_, _≤_, _<_};
 ghost use lib.ListN.{length};
 ghost use Rattle.value.specs.Class.{classNumber};
-ghost use Rattle.signal.specs.Content.{decode};
+ghost use Rattle.signal.specs.Content.{vcd, raw, real, decode};
 ghost use Rattle.signal.specs.Answer.{decodedAs};
 ghost use Rattle.signal.specs.declared.decode.DecodedChange.the-variants as decoded;
 ghost use Rattle.recording.specs.Calls.{replyOf};
 ghost use Rattle.recording.specs.Step.{skippedOne};
 ghost use Rattle.change.specs.Found.{givenOf, found, foundBy, foundOf, working, risen};
 
+pub mod admission;
+pub mod item;
 pub mod notation;
 
 // What a change answers, with the state and the signal's record after it.
@@ -80,51 +90,178 @@ fn recorded(state: Encoder, kept: SignalRecord, n: usize, states: States) -> Cha
     }
 }
 
-// 10 (second group) and 7; else the change is written into the work buffer. change and states are decoding's answer for the value.
-fn record_change(
+// A VCD value that decodes to change and states is written into the work buffer, unless 10 (second group) or 7 refuses it.
+fn record_vcd(
     state: Encoder,
     kept: SignalRecord,
     signal: SignalRef,
-    value: Value,
-    bytes: &[u8],
+    value: &[u8],
     change: ChangeValue,
     states: States,
     work: &mut [u8],
 ) -> Changed
     requires { ⌜ (0 < state .held) × (state .held ≤ 65535) × (state .work ≤ length (now work)) ⌝ }
-    requires { ⌜ decodedAs (kept .kind) (decode (kept .kind) (givenOf value (now bytes))) ≡ decoded.Change change states ⌝ }
-    ensures { λ r. ⌜ found (replyOf (r .answer)) (r .state) (r .kept) (now (work .exit)) ≡ foundBy state kept (now (work .entry)) (signal .0) (decode (kept .kind) (givenOf value (now (bytes .entry)))) ⌝ }
+    requires { ⌜ decodedAs (kept .kind) (decode (kept .kind) (vcd (now value))) ≡ decoded.Change change states ⌝ }
+    ensures { λ r. ⌜ found (replyOf (r .answer)) (r .state) (r .kept) (now (work .exit)) ≡ foundBy state kept (now (work .entry)) (signal .0) (decode (kept .kind) (vcd (now (value .entry)))) ⌝ }
 {
-    let last = state.held - 1;
-    let index = kept.index;
-    if last < index {
-        return refused(10, state, kept);
+    match begin_item(state, kept, signal, change, work) {
+        ItemStart::Refused(k) => refused(k, state, kept),
+        ItemStart::Length(n) => {
+            let kind = kept.kind;
+            let gap = state.held - 1 - kept.index;
+            put_vcd_change(work, state.work as usize + 8, kind, gap, value, change);
+            recorded(state, kept, 8 + n, states)
+        }
     }
-    let kind = kept.kind;
-    let width = kind.width();
-    if 65536 < width {
-        return refused(10, state, kept);
-    }
-    let n = change_len(width, last - index, change);
-    let used = state.work as usize;
-    if work.len() - used < 8 + n {
-        return refused(7, state, kept);
-    }
-    put_item(
-        work,
-        used,
-        signal,
-        n as u32,
-        kind,
-        last - index,
-        value,
-        bytes,
-        change,
-    );
-    recorded(state, kept, 8 + n, states)
 }
 
-// A change of a signal whose record is kept: 2, 10 (first group), 3, skip, 4, 5, 6, 10 (second group), 7, in this order.
+// The same for a raw value.
+fn record_raw(
+    state: Encoder,
+    kept: SignalRecord,
+    signal: SignalRef,
+    claim: u32,
+    value: &[u8],
+    change: ChangeValue,
+    states: States,
+    work: &mut [u8],
+) -> Changed
+    requires { ⌜ (0 < state .held) × (state .held ≤ 65535) × (state .work ≤ length (now work)) ⌝ }
+    requires { ⌜ decodedAs (kept .kind) (decode (kept .kind) (raw claim (now value))) ≡ decoded.Change change states ⌝ }
+    ensures { λ r. ⌜ found (replyOf (r .answer)) (r .state) (r .kept) (now (work .exit)) ≡ foundBy state kept (now (work .entry)) (signal .0) (decode (kept .kind) (raw claim (now (value .entry)))) ⌝ }
+{
+    match begin_item(state, kept, signal, change, work) {
+        ItemStart::Refused(k) => refused(k, state, kept),
+        ItemStart::Length(n) => {
+            let kind = kept.kind;
+            let gap = state.held - 1 - kept.index;
+            put_raw_change(
+                work,
+                state.work as usize + 8,
+                kind,
+                gap,
+                claim,
+                value,
+                change,
+            );
+            recorded(state, kept, 8 + n, states)
+        }
+    }
+}
+
+// The same for a real.
+fn record_real(
+    state: Encoder,
+    kept: SignalRecord,
+    signal: SignalRef,
+    bits: u64,
+    change: ChangeValue,
+    states: States,
+    work: &mut [u8],
+) -> Changed
+    requires { ⌜ (0 < state .held) × (state .held ≤ 65535) × (state .work ≤ length (now work)) ⌝ }
+    requires { ⌜ decodedAs (kept .kind) (decode (kept .kind) (real bits)) ≡ decoded.Change change states ⌝ }
+    ensures { λ r. ⌜ found (replyOf (r .answer)) (r .state) (r .kept) (now (work .exit)) ≡ foundBy state kept (now (work .entry)) (signal .0) (decode (kept .kind) (real bits)) ⌝ }
+{
+    match begin_item(state, kept, signal, change, work) {
+        ItemStart::Refused(k) => refused(k, state, kept),
+        ItemStart::Length(n) => {
+            let gap = state.held - 1 - kept.index;
+            put_real_change(work, state.work as usize + 8, gap, bits);
+            recorded(state, kept, 8 + n, states)
+        }
+    }
+}
+
+// A VCD value of a signal whose record is kept: 2, 10 (first group), 3, skip, 4, 5, 6, 10 (second group), 7, in this order.
+pub fn vcd_change(
+    state: Encoder,
+    kept: SignalRecord,
+    lent: Lengths,
+    signal: SignalRef,
+    value: &[u8],
+    work: &mut [u8],
+) -> Changed
+    ensures { λ r. ⌜ found (replyOf (r .answer)) (r .state) (r .kept) (now (work .exit)) ≡ foundOf state kept (lent .records) (lent .times) (lent .image) (now (work .entry)) (signal .0) (vcd (now (value .entry))) ⌝ }
+{
+    match admitted(state, lent, work.len(), signal) {
+        Admission::Refused(n) => {
+            return refused(n, state, kept);
+        }
+        Admission::Skipped => {
+            return skipped(state, kept);
+        }
+        Admission::Taken => {}
+    }
+    let kind = kept.kind;
+    match decode_vcd(kind, value) {
+        DecodedChange::Change(change, states) => {
+            record_vcd(state, kept, signal, value, change, states, work)
+        }
+        DecodedChange::Refused(k) => refused(k, state, kept),
+    }
+}
+
+// The same for a raw value.
+pub fn raw_change(
+    state: Encoder,
+    kept: SignalRecord,
+    lent: Lengths,
+    signal: SignalRef,
+    claim: u32,
+    value: &[u8],
+    work: &mut [u8],
+) -> Changed
+    ensures { λ r. ⌜ found (replyOf (r .answer)) (r .state) (r .kept) (now (work .exit)) ≡ foundOf state kept (lent .records) (lent .times) (lent .image) (now (work .entry)) (signal .0) (raw claim (now (value .entry))) ⌝ }
+{
+    match admitted(state, lent, work.len(), signal) {
+        Admission::Refused(n) => {
+            return refused(n, state, kept);
+        }
+        Admission::Skipped => {
+            return skipped(state, kept);
+        }
+        Admission::Taken => {}
+    }
+    let kind = kept.kind;
+    match decode_raw(kind, claim, value) {
+        DecodedChange::Change(change, states) => {
+            record_raw(state, kept, signal, claim, value, change, states, work)
+        }
+        DecodedChange::Refused(k) => refused(k, state, kept),
+    }
+}
+
+// The same for a real.
+pub fn real_change(
+    state: Encoder,
+    kept: SignalRecord,
+    lent: Lengths,
+    signal: SignalRef,
+    bits: u64,
+    work: &mut [u8],
+) -> Changed
+    ensures { λ r. ⌜ found (replyOf (r .answer)) (r .state) (r .kept) (now (work .exit)) ≡ foundOf state kept (lent .records) (lent .times) (lent .image) (now (work .entry)) (signal .0) (real bits) ⌝ }
+{
+    match admitted(state, lent, work.len(), signal) {
+        Admission::Refused(n) => {
+            return refused(n, state, kept);
+        }
+        Admission::Skipped => {
+            return skipped(state, kept);
+        }
+        Admission::Taken => {}
+    }
+    let kind = kept.kind;
+    match decode_real(kind, bits) {
+        DecodedChange::Change(change, states) => {
+            record_real(state, kept, signal, bits, change, states, work)
+        }
+        DecodedChange::Refused(k) => refused(k, state, kept),
+    }
+}
+
+// A change in any notation.
 pub fn change_found(
     state: Encoder,
     kept: SignalRecord,
@@ -136,24 +273,9 @@ pub fn change_found(
 ) -> Changed
     ensures { λ r. ⌜ found (replyOf (r .answer)) (r .state) (r .kept) (now (work .exit)) ≡ foundOf state kept (lent .records) (lent .times) (lent .image) (now (work .entry)) (signal .0) (givenOf value (now (bytes .entry))) ⌝ }
 {
-    let n = state_refusal(state, lent, work.len());
-    if n != 0 {
-        return refused(n, state, kept);
-    }
-    if state.held == 0 {
-        return refused(3, state, kept);
-    }
-    if state.skip {
-        return skipped(state, kept);
-    }
-    if state.signals <= signal.0 {
-        return refused(4, state, kept);
-    }
-    let kind = kept.kind;
-    match decode_value(kind, value, bytes) {
-        DecodedChange::Change(change, states) => {
-            record_change(state, kept, signal, value, bytes, change, states, work)
-        }
-        DecodedChange::Refused(k) => refused(k, state, kept),
+    match value {
+        Value::Vcd => vcd_change(state, kept, lent, signal, bytes, work),
+        Value::Raw(claim) => raw_change(state, kept, lent, signal, claim, bytes, work),
+        Value::Real(bits) => real_change(state, kept, lent, signal, bits, work),
     }
 }

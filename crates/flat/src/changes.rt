@@ -1,6 +1,5 @@
 // The three change calls: a VCD, a raw and a real value.
-use change::change_found;
-use change::notation::Value;
+use change::Changed;
 use plan::Outcome;
 use recording::Encoder;
 use recording::SignalRef;
@@ -8,34 +7,29 @@ use refusals::Lengths;
 use storage::find_record;
 use storage::put_record;
 ghost use mathlib.Core.Path.{_≡_};
+ghost use lib.ListN.{length, set};
 ghost use Rattle.signal.specs.Content.{vcd, raw, real};
 ghost use Rattle.recording.specs.Calls.{replyOf};
 ghost use Rattle.recording.specs.Memory.{memory, after};
 ghost use Rattle.recording.specs.Step.{changeOf};
-ghost use Rattle.storage.specs.Storage.{recordsOf};
-ghost use Rattle.change.specs.Found.{givenOf};
+ghost use Rattle.storage.specs.Storage.{recordsOf, Storable};
 
-// A change in any notation: the signal's record is read, decided on, and stored.
-fn value_change(
-    state: Encoder,
-    records: &mut [u64],
-    times: &[u64],
-    work: &mut [u8],
-    image: &[u8],
-    signal: SignalRef,
-    value: Value,
-    bytes: &[u8],
-) -> Outcome
-    ensures { λ r. ⌜ after (replyOf (r .answer)) (memory (r .state) (recordsOf (now (records .exit))) (now (times .entry)) (now (work .exit)) (now (image .entry)))
-        ≡ changeOf (memory state (recordsOf (now (records .entry))) (now (times .entry)) (now (work .entry)) (now (image .entry))) (signal .0) (givenOf value (now (bytes .entry))) ⌝ }
+// The lengths of the lent memory, but for the work buffer's.
+fn lengths(records: &[u64], times: &[u64], image: &[u8]) -> Lengths
+    ensures { λ r. ⌜ (r .records ≡ length (now (records .entry))) × (r .times ≡ length (now (times .entry))) × (r .image ≡ length (now (image .entry))) ⌝ }
 {
-    let lent = Lengths {
+    Lengths {
         records: records.len(),
         times: times.len(),
         image: image.len(),
-    };
-    let kept = find_record(&*records, signal);
-    let changed = change_found(state, kept, lent, signal, value, bytes, work);
+    }
+}
+
+// Stores the signal's record after a change.
+fn stored(records: &mut [u64], signal: SignalRef, changed: Changed) -> Outcome
+    requires { ⌜ Storable (changed .kept) ⌝ }
+    ensures { λ r. ⌜ (r .answer ≡ changed .answer) × (r .state ≡ changed .state) × (recordsOf (now (records .exit)) ≡ set (recordsOf (now (records .entry))) (signal .0) (changed .kept)) ⌝ }
+{
     let kept = changed.kept;
     put_record(records, signal, kept);
     let answer = changed.answer;
@@ -56,16 +50,10 @@ pub fn vcd_value_change(
     ensures { λ r. ⌜ after (replyOf (r .answer)) (memory (r .state) (recordsOf (now (records .exit))) (now (times .entry)) (now (work .exit)) (now (image .entry)))
         ≡ changeOf (memory state (recordsOf (now (records .entry))) (now (times .entry)) (now (work .entry)) (now (image .entry))) (signal .0) (vcd (now (value .entry))) ⌝ }
 {
-    value_change(
-        state,
-        records,
-        times,
-        work,
-        image,
-        signal,
-        Value::Vcd,
-        value,
-    )
+    let lent = lengths(&*records, times, image);
+    let kept = find_record(&*records, signal);
+    let changed = change::vcd_change(state, kept, lent, signal, value, work);
+    stored(records, signal, changed)
 }
 
 // A raw value of a signal, with the class that it claims.
@@ -82,16 +70,10 @@ pub fn raw_value_change(
     ensures { λ r. ⌜ after (replyOf (r .answer)) (memory (r .state) (recordsOf (now (records .exit))) (now (times .entry)) (now (work .exit)) (now (image .entry)))
         ≡ changeOf (memory state (recordsOf (now (records .entry))) (now (times .entry)) (now (work .entry)) (now (image .entry))) (signal .0) (raw claim (now (value .entry))) ⌝ }
 {
-    value_change(
-        state,
-        records,
-        times,
-        work,
-        image,
-        signal,
-        Value::Raw(claim),
-        value,
-    )
+    let lent = lengths(&*records, times, image);
+    let kept = find_record(&*records, signal);
+    let changed = change::raw_change(state, kept, lent, signal, claim, value, work);
+    stored(records, signal, changed)
 }
 
 // A real of a signal, by the 64 bits of its f64, so that every pattern is kept.
@@ -107,14 +89,8 @@ pub fn real_change(
     ensures { λ r. ⌜ after (replyOf (r .answer)) (memory (r .state) (recordsOf (now (records .exit))) (now (times .entry)) (now (work .exit)) (now (image .entry)))
         ≡ changeOf (memory state (recordsOf (now (records .entry))) (now (times .entry)) (now (work .entry)) (now (image .entry))) (signal .0) (real bits) ⌝ }
 {
-    value_change(
-        state,
-        records,
-        times,
-        work,
-        image,
-        signal,
-        Value::Real(bits),
-        &[],
-    )
+    let lent = lengths(&*records, times, image);
+    let kept = find_record(&*records, signal);
+    let changed = change::real_change(state, kept, lent, signal, bits, work);
+    stored(records, signal, changed)
 }

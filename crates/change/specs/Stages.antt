@@ -1,0 +1,38 @@
+-- What the code answers on the way of a change: whether its value is looked at, and whether its record begins.
+-- Assumes nothing.
+use Prim.Native.Nat.{ℕ, _-_}
+use mathlib.Core.List.{List, _++_}
+use lib.Dec.{leb}
+use lib.Seq.{sets}
+use Rattle.lists.specs.Choice.{pick}
+use Rattle.numbers.specs.LittleEndian.{le}
+use Rattle.signal.specs.declared.decode.ChangeValue.{ChangeValue}
+use Rattle.signal.specs.Kind.{widthOf}
+use Rattle.stream.specs.Answer.{changeLength}
+use Rattle.recording.specs.declared.Encoder.{Encoder}
+use Rattle.recording.specs.declared.SignalRecord.{SignalRecord}
+use Rattle.recording.specs.Memory.{guarded}
+use Rattle.recording.specs.Refusals.{stateTests, earlyTests, roomTests}
+use Rattle.change.specs.declared.admission.Admission.{Admission}
+use Rattle.change.specs.declared.admission.Admission.the-variants as admission
+use Rattle.change.specs.declared.item.ItemStart.{ItemStart}
+use Rattle.change.specs.declared.item.ItemStart.the-variants as start
+
+-- the tests before the value; that a signal is absent is told by its value's decoding
+unfoldable pub admissionOf : Encoder → (records times work image : ℕ) → (signal : ℕ) → Admission
+admissionOf s records times work image g =
+    guarded (stateTests s records times work image) admission.Refused
+    (guarded (earlyTests s) admission.Refused
+    (pick (s .skip) admission.Skipped
+    (pick (leb (s .signals) g) (admission.Refused 4) admission.Taken)))
+
+-- the tests after the value's decoding, by the length of the work buffer
+unfoldable pub startOf : Encoder → SignalRecord → (work : ℕ) → ChangeValue → ItemStart
+startOf s r work v =
+    let n = changeLength (widthOf (r .kind)) (s .held - 1 - r .index) v in
+    guarded (roomTests s r work n) start.Refused (start.Length n)
+
+-- the work buffer after them: a record's head stands at its place, where the record has room
+abbrev pub begun : (work : List ℕ) → (at signal : ℕ) → ItemStart → List ℕ
+begun w at g (start.Refused k) = w
+begun w at g (start.Length n) = sets w at (le 4 g ++ le 4 n)

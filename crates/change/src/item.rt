@@ -1,0 +1,48 @@
+// The head of a change's record in the work buffer.
+use numbers::little_endian::put_u32;
+use recording::Encoder;
+use recording::SignalRecord;
+use recording::SignalRef;
+use signal::decode::ChangeValue;
+use stream::write::change_len;
+ghost use mathlib.Core.Path.{_≡_};
+ghost use Prim.Native.Nat.{_≤_, _<_};
+ghost use lib.ListN.{length};
+ghost use Rattle.change.specs.Stages.{startOf, begun};
+
+pub enum ItemStart {
+    Refused(u32),
+    // The stream length; the head is written.
+    Length(usize),
+}
+
+// 10 (second group) and 7; else writes the signal and the stream length. change is decoding's answer for the value.
+pub fn begin_item(
+    state: Encoder,
+    kept: SignalRecord,
+    signal: SignalRef,
+    change: ChangeValue,
+    work: &mut [u8],
+) -> ItemStart
+    requires { ⌜ (0 < state .held) × (state .held ≤ 65535) × (state .work ≤ length (now work)) ⌝ }
+    ensures { λ r. ⌜ (r ≡ startOf state kept (length (now (work .entry))) change) × (now (work .exit) ≡ begun (now (work .entry)) (state .work) (signal .0) r) ⌝ }
+{
+    let last = state.held - 1;
+    let index = kept.index;
+    if last < index {
+        return ItemStart::Refused(10);
+    }
+    let kind = kept.kind;
+    let width = kind.width();
+    if 65536 < width {
+        return ItemStart::Refused(10);
+    }
+    let n = change_len(width, last - index, change);
+    let used = state.work as usize;
+    if work.len() - used < 8 + n {
+        return ItemStart::Refused(7);
+    }
+    let next = put_u32(work, used, signal.0);
+    put_u32(work, next, n as u32);
+    ItemStart::Length(n)
+}
