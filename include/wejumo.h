@@ -254,7 +254,8 @@ WEJUMO_ASSERT(offsetof(wejumo_entry_answer, content) == 8);
 uint32_t wejumo_open(const uint8_t *image, size_t image_length);
 
 /* Writes the indices of a signal's kept entries (in the combined table) and their bytes, all of one length, to the starts of the outputs,
- * and nothing past them. Refused with 11, 4, 9. */
+ * and nothing past them. One pass over its changes writes them where the outputs have room for as many entries as its streams can hold;
+ * else one counts them before. Refused with 11, 4, 9. */
 wejumo_load_answer wejumo_load(const uint8_t *image, size_t image_length, uint32_t signal,
                                uint32_t *index, size_t index_length,
                                uint8_t *bytes, size_t bytes_length);

@@ -27,11 +27,13 @@ use Rattle.loaded.specs.Loading.{joinTimes, tableFrom, loads, signalClass}
 use Rattle.loaded.specs.EntryBytes.{entriesBytes}
 use Rattle.entry.specs.Length.{entryLength}
 use Rattle.entry.proofs.EntriesLaws.{entries-length}
+use Rattle.loader.specs.Least.{leastLength, streamsLength}
+use Rattle.loader.proofs.LeastLaws.{least-any}
 use Rattle.loader.proofs.BlockLaws.{stream-data}
+use Rattle.loader.proofs.KeptLaws.{joined-length, EachKept, class-most, each-kept, kept-fits, kept-least}
 use Rattle.loader.proofs.LoadLaws.{known-at}
 use Rattle.listing.specs.Listing.{headLine, timeLines, signalLine, entryLine, entryLines, signalLines, signalsFrom, imageText, textOf, inputLimit, listingOf, listingLimit}
-use Rattle.listing.proofs.LengthLaws.{head-line, time-lines, signal-line, entry-line, leastLength, least-any, entry-most}
-use Rattle.listing.proofs.KeptLaws.{joined-length, EachKept, class-most, each-kept, kept-fits, streamsLength, kept-least}
+use Rattle.listing.proofs.LengthLaws.{head-line, time-lines, signal-line, entry-line, entry-most}
 
 -- at most 16,384 bytes
 abbrev pub Small : Image → Type 0
@@ -95,19 +97,16 @@ data-next k ks g (y ∷ bs) = omega (arith, data-part k ks g (y .parts), data-ne
 
 -- ---- the kept entries
 
--- a kept entry's signal has a change of a byte
-count-most : (k : SignalEncoding) (c n m : ℕ) (es : List Entry) → EachKept k c n es → length es * leastLength k ≤ m → length es ≤ m
-count-most k c n m [] f h = omega arith
-count-most k c n m (e ∷ es) f h =
-    let q : suc (length es) * 1 ≤ suc (length es) * leastLength k = mul-le-mul (omega arith) (least-any k (e .content) (f .0 .content)) in
-    omega arith
+-- a change has a byte
+count-most : (k : SignalEncoding) (n m : ℕ) → n * leastLength k ≤ m → n ≤ m
+count-most k n m h = let q : n * 1 ≤ n * leastLength k = mul-le-mul (omega arith) (least-any k) in omega arith
 
 module _ (x : Image) (v : Valid x) (z : Small x) (g : ℕ) where
   streams-few : streamsLength (kindAt x g) g (x .blocks) ≤ 16384
   streams-few = omega (arith, image-size x, blocks-least (x .kinds) (x .blocks), streams-data (x .limit) (x .kinds) g none [] (x .blocks) (v .blocks))
 
   pub entries-few : length (loads g (x .blocks) .entries) ≤ 16384
-  entries-few = count-most (kindAt x g) _ _ 16384 (loads g (x .blocks) .entries) (each-kept x v g) (omega (arith, kept-least x v g, streams-few))
+  entries-few = count-most (kindAt x g) (length (loads g (x .blocks) .entries)) 16384 (omega (arith, kept-least x v g, streams-few))
 
   pub bytes-few : length (entriesBytes (kindAt x g) (signalClass (loads g (x .blocks))) (loads g (x .blocks) .entries)) ≤ 65536
   bytes-few =

@@ -2,7 +2,7 @@
 -- against the bytes of its change in a stream.
 -- Assumes nothing.
 use Prim.Native.Nat.{ℕ, zero, suc, _+_, _*_, _/_, _%_, _≤_, _<_, _^_}
-use mathlib.Core.Path.{_≡_, refl, ap, _∙_}
+use mathlib.Core.Path.{_≡_, _∙_}
 use mathlib.Core.Bool.{Bool, true, false}
 use mathlib.Core.List.{List, [], _∷_, _++_}
 use native.Mathlib.Nat.{pow-suc}
@@ -12,22 +12,14 @@ use lib.Dec.{ltb}
 use lib.ListN.{length, length-append, length-map}
 use Rattle.lists.specs.Choice.{pick}
 use Rattle.ascii.specs.Ascii.{ascii, digitCode, decimalIn, decimal, hexadecimal}
-use Rattle.numbers.specs.Leb128.{lebOf}
-use Rattle.numbers.specs.LittleEndian.{le}
-use Rattle.numbers.proofs.Leb128Laws.{leb-any}
-use Rattle.numbers.proofs.LittleEndianLaws.{length-le}
-use Rattle.value.specs.Class.{classOfAll}
-use Rattle.value.proofs.ClassLaws.{class-all-small}
-use Rattle.packed.specs.Packed.{packedLength, packed}
-use Rattle.packed.proofs.PackedLaws.{length-packed}
+use Rattle.packed.specs.Packed.{packedLength}
 use Rattle.signal.specs.declared.kind.SignalEncoding.{SignalEncoding}
 use Rattle.signal.specs.declared.kind.SignalEncoding.the-variants.{BitVector, Real, Absent}
 use Rattle.signal.specs.Kind.{knownKind}
 use Rattle.signal.specs.Content.{Content, happened, symbols, bits, ContentFits}
-use Rattle.stream.specs.Stream.{changeBytes}
 use Rattle.stream.specs.Entries.{Entry}
 use Rattle.entry.specs.Length.{classByte, wideLength, entryLength}
-use Rattle.entry.proofs.LengthLaws.{packed-fewer}
+use Rattle.loader.specs.Least.{leastLength}
 use Rattle.listing.specs.Listing.{lineEnd, headLine, timeLine, timeLines, vectorWords, kindWords, signalLine, letterOf, contentWords, entryLine}
 
 -- ---- numbers
@@ -99,40 +91,7 @@ signal-line g k c n f h z m =
 
 -- ---- a change, its entry and its line
 
--- a change of a signal takes so many bytes at least
-abbrev pub leastLength : SignalEncoding → ℕ
-leastLength (BitVector zero) = 1
-leastLength (BitVector (suc zero)) = 1
-leastLength (BitVector (suc (suc w))) = 1 + packedLength (suc (suc w)) 0
-leastLength Real = 9
-leastLength Absent = 0
-
-wide-least : (w n c : ℕ) (s : List ℕ) → length s ≡ w → c ≡ classOfAll s → 1 + packedLength w 0 ≤ length (lebOf n ++ packed c s)
-wide-least w n c s e f =
-    let p : length (packed c s) ≡ packedLength w c = length-packed c s ∙ ap (λ (v : ℕ). packedLength v c) e in
-    let q : c ≤ 2 = omega (arith, class-all-small s) in
-    omega (arith, length-append (lebOf n) (packed c s), leb-any n, packed-fewer w 0 c (omega arith) q)
-
-pub change-least : (k : SignalEncoding) (d : ℕ) (c : Content) → ContentFits k c → leastLength k ≤ length (changeBytes k d c)
-unfolding changeBytes
-change-least (BitVector zero) d c f = omega (arith, leb-any d)
-change-least (BitVector (suc w)) d happened f = absurd f
-change-least (BitVector (suc zero)) d (symbols s) f = leb-any _
-change-least (BitVector (suc (suc w))) d (symbols s) f = wide-least (suc (suc w)) _ (classOfAll s) s (f .0) refl
-change-least (BitVector (suc w)) d (bits b) f = absurd f
-change-least Real d happened f = absurd f
-change-least Real d (symbols s) f = absurd f
-change-least Real d (bits b) f = omega (arith, length-append (lebOf d) (le 8 b), leb-any d, length-le 8 b)
-change-least Absent d c f = absurd f
-
-pub least-any : (k : SignalEncoding) (c : Content) → ContentFits k c → 1 ≤ leastLength k
-least-any (BitVector zero) c f = omega arith
-least-any (BitVector (suc zero)) c f = omega arith
-least-any (BitVector (suc (suc w))) c f = omega arith
-least-any Real c f = omega arith
-least-any Absent c f = absurd f
-
--- an entry has at most four times the bytes
+-- an entry has at most four times the bytes of its change
 one-more : (t : Bool) → pick t 1 0 ≤ 1
 one-more true = omega arith
 one-more false = omega arith

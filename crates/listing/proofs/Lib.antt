@@ -1,5 +1,4 @@
 pub mod LengthLaws
-pub mod KeptLaws
 pub mod BoundLaws
 pub mod Cases
 pub mod LineLaws

@@ -23,11 +23,11 @@ use Rattle.loaded.specs.Reader.{unknownSignal, LoadAfter, refuse, loaded, loadA
 use Rattle.entry.proofs.EntriesLaws.{EachFits}
 use Rattle.walk.specs.Walk.{imageIn}
 use Rattle.walk.proofs.HeadLaws.{means}
+use Rattle.loader.proofs.KeptLaws.{class-most, kept-fits}
 use Rattle.loader.proofs.LoadLaws.{known}
 use Rattle.listing.specs.Listing.{entryLines, signalLine, signalLines}
 use Rattle.listing.specs.Written.{Taken, Enough, entriesRead, entriesThere}
 use Rattle.listing.proofs.BoundLaws.{Small, entries-few, bytes-few}
-use Rattle.listing.proofs.KeptLaws.{class-most, kept-fits}
 use Rattle.listing.proofs.EntryLaws.{taken-back, ReadBack, read-back}
 
 pub valid-in : (b : List ℕ) → Bytes b → Taken b → Valid (imageIn b)

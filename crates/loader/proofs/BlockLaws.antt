@@ -88,6 +88,11 @@ unfolding streamBytes
 stream-in k none = refl
 stream-in k (some p) = refl
 
+-- how long it is
+pub part-size : (b : List ℕ) (number g from to top : ℕ) → PartHere from to top number g b → length (streamIn (kindAt (imageIn b) g) (partAt (blockAt (imageIn b) number) g)) ≡ to - from
+part-size b number g from to top p =
+    sym (ap length (p .stream)) ∙ length-take-le (to - from) (drop from b) (omega (arith, length-drop from b, p .ordered, p .inside))
+
 -- before the first change of a signal in a block
 pub record Begins (b : List ℕ) (number at g from to : ℕ) : Type 0 where
   pub ahead : Ahead (kindAt (imageIn b) g) b (length (blockAt (imageIn b) number .times)) (topIn (partAt (blockAt (imageIn b) number) g)) from to
@@ -110,11 +115,9 @@ begins b number at g from to top y o h p =
     let f : Fitting (x .limit) ks n = block-fits (x .limit) ks none [] (x .blocks) number (m .valid .blocks) (h .exists) in
     let pf = part-fits (length (n .times)) (firstIndex (f .end)) ks (f .tops) (n .parts) g (f .fits .parts) in
     let s : take (to - from) (drop from b) ≡ streamBytes k 0 (entriesIn q) = p .stream ∙ stream-in k q in
-    let ld = length-drop from b in
-    let lt : length (take (to - from) (drop from b)) ≡ to - from = length-take-le (to - from) (drop from b) (omega (arith, p .ordered, p .inside)) in
-    let ls : length (streamBytes k 0 (entriesIn q)) ≡ to - from = sym (ap length s) ∙ lt in
+    let size : length (streamIn k q) ≡ to - from = part-size b number g from to top p in
+    let ls : length (streamBytes k 0 (entriesIn q)) ≡ to - from = sym (ap length (stream-in k q)) ∙ size in
     let few : length (n .times) ≤ 65535 = omega (arith, filled-most (x .limit) (length (n .times)) (f .follow) (f .fits .filled), m .valid .high) in
-    let size : length (streamIn k q) ≡ to - from = sym (ap length (p .stream)) ∙ lt in
     let sd = stream-data ks (n .parts) g (parts-count _ _ ks (f .tops) (n .parts) (f .fits .parts)) in
     let ns = next-size x number (h .exists) in
     let pl = h .place in
@@ -142,28 +145,19 @@ begins b number at g from to top y o h p =
 
 -- ---- the loop over its changes
 
--- after raising the top class
-pub record Same (s r : Loading) : Type 0 where
-  pub count : r .count ≡ s .count
-  pub used : r .used ≡ s .used
-  pub last : r .last ≡ s .last
-
-same-output : (k : SignalEncoding) (b : List ℕ) (s r : Loading) (index bytes : List ℕ) → Same s r → outputAs k b r index bytes ≡ outputAs k b s index bytes
-same-output k b s r index bytes e = rw (e .count, e .used, e .last) refl
-
 abbrev pub BlockGoing : (k : SignalEncoding) (b : List ℕ) (number g c : ℕ) (w : Bool) (times from to : ℕ) (r : Loading) (index bytes : List ℕ) (p i : ℕ) (s : Loading) (index' bytes' : List ℕ) → Type 0
 BlockGoing k b number g c w times from to r index bytes p i s index' bytes' =
     Going k b (length (blockAt (imageIn b) number .times)) (topOf (imageIn b) number g) c w (baseOf number times) from to
     (outputAs k b r index bytes) (changesIn (imageIn b) number g times) p i s index' bytes'
 
-module _ (k : SignalEncoding) (b : List ℕ) (number at g c : ℕ) (w : Bool) (times from to : ℕ) (s r : Loading) (index bytes : List ℕ)
-    (e : k ≡ kindAt (imageIn b) g) (m : Begins b number at g from to) (q : Same s r) where
-  pub going-first : (i : ℕ) → KeptReads (kindAt (imageIn b) g) b (s .last) → i ≡ baseOf number times → BlockGoing k b number g c w times from to r index bytes from i r index bytes
+module _ (k : SignalEncoding) (b : List ℕ) (number at g c : ℕ) (w : Bool) (times from to : ℕ) (s : Loading) (index bytes : List ℕ)
+    (e : k ≡ kindAt (imageIn b) g) (m : Begins b number at g from to) where
+  pub going-first : (i : ℕ) → KeptReads (kindAt (imageIn b) g) b (s .last) → i ≡ baseOf number times → BlockGoing k b number g c w times from to s index bytes from i s index bytes
   going-first i l f =
       rw e (record {
         ahead = m .ahead;
         at = omega (arith, m .prev);
-        reads = rw (q .last) l;
+        reads = l;
         same = rw (m .entries) refl;
         start = omega arith;
         few = omega arith;
@@ -172,22 +166,22 @@ module _ (k : SignalEncoding) (b : List ℕ) (number at g c : ℕ) (w : Bool) (t
       })
 
   pub room-there : (i n : ℕ) → Room w (allTaken (kindAt (imageIn b) g) c w (outputAs (kindAt (imageIn b) g) b s index bytes) (changesIn (imageIn b) number g times)) i n
-      → Room w (allTaken k c w (outputAs k b r index bytes) (changesIn (imageIn b) number g times)) i n
-  room-there i n h = rw (same-output k b s r index bytes q, e) h
+      → Room w (allTaken k c w (outputAs k b s index bytes) (changesIn (imageIn b) number g times)) i n
+  room-there i n h = rw e h
 
-  pub block-done : (p i : ℕ) (t : Loading) (index' bytes' : List ℕ) → BlockGoing k b number g c w times from to r index bytes p i t index' bytes' → to ≤ p → s .count ≤ at
+  pub block-done : (p i : ℕ) (t : Loading) (index' bytes' : List ℕ) → BlockGoing k b number g c w times from to s index bytes p i t index' bytes' → to ≤ p → s .count ≤ at
       → KeptReads (kindAt (imageIn b) g) b (t .last) × (t .count ≤ blockPlace (imageIn b) (suc number))
       × (outputAs (kindAt (imageIn b) g) b t index' bytes' ≡ allTaken (kindAt (imageIn b) g) c w (outputAs (kindAt (imageIn b) g) b s index bytes) (changesIn (imageIn b) number g times))
   block-done p i t index' bytes' d h few =
-      let x : outputAs k b t index' bytes' ≡ allTaken k c w (outputAs k b r index bytes) (changesIn (imageIn b) number g times) = gone k b _ _ c w _ from to _ _ p i t index' bytes' d h in
-      let y = rw (same-output k b s r index bytes q, e) at x in
+      let x : outputAs k b t index' bytes' ≡ allTaken k c w (outputAs k b s index bytes) (changesIn (imageIn b) number g times) = gone k b _ _ c w _ from to _ _ p i t index' bytes' d h in
+      let y = rw e at x in
       let z : p ≤ to = omega (arith, d .ahead .size) in
-      (rw e at (d .reads), omega (arith, d .few, d .start, q .count, m .place, m .ordered), y)
+      (rw e at (d .reads), omega (arith, d .few, d .start, m .place, m .ordered), y)
 
   -- one change of it
-  pub block-turn : (p i : ℕ) (t : Loading) (index' bytes' : List ℕ) (d : ℕ) (v : ChangeValue) (next : ℕ) → (y : Bytes b) → (h : p < to) → (x : BlockGoing k b number g c w times from to r index bytes p i t index' bytes')
+  pub block-turn : (p i : ℕ) (t : Loading) (index' bytes' : List ℕ) (d : ℕ) (v : ChangeValue) (next : ℕ) → (y : Bytes b) → (h : p < to) → (x : BlockGoing k b number g c w times from to s index bytes p i t index' bytes')
       → changeAt k b p ≡ read.Change d v next → Turn k b (length (blockAt (imageIn b) number .times)) (topOf (imageIn b) number g) p to (x .ahead) d v next
   block-turn p i t index' bytes' d v next y h x f = turn k b _ _ p to y (m .few) h (x .ahead) d v next f
 
-  pub block-not-bad : (p i : ℕ) (t : Loading) (index' bytes' : List ℕ) → Bytes b → p < to → BlockGoing k b number g c w times from to r index bytes p i t index' bytes' → changeAt k b p ≡ read.Bad → ⊥
+  pub block-not-bad : (p i : ℕ) (t : Loading) (index' bytes' : List ℕ) → Bytes b → p < to → BlockGoing k b number g c w times from to s index bytes p i t index' bytes' → changeAt k b p ≡ read.Bad → ⊥
   block-not-bad p i t index' bytes' y h x f = not-bad k b _ _ p to y (m .few) h (x .ahead) f

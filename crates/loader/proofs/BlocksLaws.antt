@@ -1,6 +1,6 @@
 -- Loading block after block, on plain lists and in an accepted image.
 -- Assumes nothing.
-use Prim.Native.Nat.{ℕ, zero, suc, _+_, _-_, _≤_, _<_, max}
+use Prim.Native.Nat.{ℕ, zero, suc, _+_, _-_, _≤_, _<_}
 use mathlib.Core.Path.{_≡_, refl, sym, ap, _∙_, subst}
 use mathlib.Core.Bool.{Bool, true, false}
 use mathlib.Core.List.{List, [], _∷_, _++_, map}
@@ -114,7 +114,6 @@ pub record Passing (b : List ℕ) (g c : ℕ) (w : Bool) (index bytes : List ℕ
   pub early : times ≤ at
   pub few : s .count ≤ at
   pub place : at ≡ blockPlace (imageIn b) number
-  pub class : s .top ≡ l .class
   pub reads : KeptReads (kindAt (imageIn b) g) b (s .last)
   pub same : outputAs (kindAt (imageIn b) g) b s index' bytes' ≡ holding (kindAt (imageIn b) g) c w index bytes (l .entries)
 
@@ -143,7 +142,6 @@ passing-first b g c w index bytes at s y o e z = rw z (record {
   early = omega arith;
   few = omega arith;
   place = e;
-  class = refl;
   reads = tt;
   same = held-nothing (kindAt (imageIn b) g) c w index bytes;
 })
@@ -204,10 +202,10 @@ module _ (b : List ℕ) (g c : ℕ) (w : Bool) (index bytes : List ℕ) (number 
       (omega arith, omega arith)
 
   pub passing-on : (times' at' : ℕ) (s' : Loading) (i j : List ℕ) → times' ≡ baseOf number times + length (next .times) → at' ≡ blockPlace x (suc number)
-      → KeptReads (kindAt x g) b (s' .last) → s' .top ≡ max (s .top) (topOf x number g) → s' .count ≤ blockPlace x (suc number)
+      → KeptReads (kindAt x g) b (s' .last) → s' .count ≤ blockPlace x (suc number)
       → outputAs (kindAt x g) b s' i j ≡ allTaken (kindAt x g) c w (outputAs (kindAt x g) b s index' bytes') (changesIn x number g times)
       → Passing b g c w index bytes (number + 1) at' times' s' i j
-  passing-on times' at' s' i j e f r t few q =
+  passing-on times' at' s' i j e f r few q =
       let m = joined in
       let n : number + 1 ≡ suc number = omega arith in
       let z : times' ≡ length (joinTimes (p .l .times) (next .times)) = e ∙ ap (λ (u : ℕ). baseOf number u + length (next .times)) (p .size) ∙ sym (m .size) in
@@ -223,14 +221,13 @@ module _ (b : List ℕ) (g c : ℕ) (w : Bool) (index bytes : List ℕ) (number 
         early = omega (arith, base-small number times, p .early, next-times .0);
         few = omega arith;
         place = f;
-        class = t ∙ ap (λ (u : ℕ). max u (topOf x number g)) (p .class);
         reads = r;
         same = q ∙ made;
       })
 
 pub passed : (b : List ℕ) (g c : ℕ) (w : Bool) (index bytes : List ℕ) (number at times : ℕ) (s : Loading) (index' bytes' : List ℕ) → Bytes b → Opened b
     → Passing b g c w index bytes number at times s index' bytes' → length (imageIn b .blocks) ≤ number
-    → (s .top ≡ loads g (imageIn b .blocks) .class) × (s .count ≤ imageLimit)
+    → (s .count ≤ imageLimit)
     × (outputAs (kindAt (imageIn b) g) b s index' bytes' ≡ holding (kindAt (imageIn b) g) c w index bytes (loads g (imageIn b .blocks) .entries))
 unfolding loadFrom
 passed b g c w index bytes number at times s index' bytes' y o p h =
@@ -239,4 +236,4 @@ passed b g c w index bytes number at times s index' bytes' y o p h =
     let all : p .l ≡ loads g (x .blocks) = subst (λ (bs : List (Block (List Entry))). loadFrom g (p .l) bs ≡ loads g (x .blocks)) none-left (p .rest) in
     let n : number ≡ length (x .blocks) = omega (arith, p .inside) in
     let e : blockPlace x number ≡ length b = ap (blockPlace x) n ∙ end-place b x (means b y o) in
-    (p .class ∙ ap (λ (l : Load). l .class) all, omega (arith, p .few, p .place, head-in b y o .most), p .same ∙ ap (λ (l : Load). holding (kindAt x g) c w index bytes (l .entries)) all)
+    (omega (arith, p .few, p .place, head-in b y o .most), p .same ∙ ap (λ (l : Load). holding (kindAt x g) c w index bytes (l .entries)) all)

@@ -1,131 +1,65 @@
--- The kept entries of a signal of an accepted image fit its kind and its class, so their bytes are as many as their number says.
--- And what loading answers, by what the code finds.
+-- The kept entries of a signal of an accepted image: their bytes are as many as their number says, and they are no more than its streams
+-- have room for. And what loading answers, by what the code finds.
 -- Assumes nothing.
-use Prim.Native.Nat.{ℕ, zero, suc, _+_, _-_, _*_, _≤_, _<_}
+use Prim.Native.Nat.{ℕ, zero, suc, _*_, _/_, _≤_, _<_}
 use mathlib.Core.Path.{_≡_, refl, sym, ap, _∙_}
 use mathlib.Core.Bool.{Bool, true, false, _||_}
-use mathlib.Core.List.{List, [], _∷_, _++_, map}
-use mathlib.Core.Option.{Option, some, none}
-use native.Mathlib.Nat.{mul-le-mul}
+use mathlib.Core.List.{List, [], _∷_, map}
+use native.Mathlib.Nat.{mul-le-mul, le-div-iff-mul-le}
 use native.Mathlib.Omega.{arith}
 use borrow.Author.Tests.{leb-true, lt-ltb, le-ltb, ltb-false}
 use lib.Dec.{leb, ltb}
-use lib.ListN.{length, getD, length-append, List·getD-eq-default}
+use lib.ListN.{length, getD, List·getD-eq-default}
 use lib.Seq.{sets}
 use Rattle.lists.specs.Choice.{pick}
 use Rattle.lists.specs.Bytes.{Bytes}
-use Rattle.lists.specs.Last.{lastOr}
 use Rattle.lists.proofs.ChoiceLaws.{none-holds}
-use Rattle.value.specs.Class.{classNumber, statesOf, classOfAll}
-use Rattle.value.specs.declared.states.States.{States}
-use Rattle.value.proofs.ClassLaws.{number-states}
 use Rattle.signal.specs.declared.kind.SignalEncoding.{SignalEncoding}
 use Rattle.signal.specs.declared.kind.SignalEncoding.the-variants.{BitVector, Real, Absent}
-use Rattle.signal.specs.Kind.{absent, knownKind, topLimit}
-use Rattle.signal.specs.Content.{ContentFits, symbolsOf}
+use Rattle.signal.specs.Kind.{absent, knownKind}
 use Rattle.stream.specs.Entries.{Entry, orNine}
-use Rattle.image.specs.Block.{Part, Block}
 use Rattle.image.specs.Head.{imageLimit}
 use Rattle.image.specs.Image.{Image}
-use Rattle.codec.specs.Valid.{EntriesFit, OptionFits, KnownKinds, topsAfter, firstIndex, BlocksFit}
-use Rattle.loaded.specs.Opener.{kindAt, partAt}
-use Rattle.loaded.specs.Loading.{overlap, moved, repeatsLast, pushed, Load, load, entriesIn, topIn, loadBlock, loadFrom, loads, signalClass}
-use Rattle.loaded.specs.EntryBytes.{entryBytes, entriesBytes}
+use Rattle.codec.specs.Valid.{KnownKinds}
+use Rattle.loaded.specs.Opener.{kindAt}
+use Rattle.loaded.specs.Loading.{Load, loads, signalClass}
+use Rattle.loaded.specs.EntryBytes.{entriesBytes}
 use Rattle.loaded.specs.Reader.{unknownSignal, refuse, loaded, loadAfter, indexIn, loadIn}
 use Rattle.entry.specs.Length.{classByte, wideLength, entryLength}
-use Rattle.entry.proofs.LengthLaws.{entry-length}
+use Rattle.entry.proofs.EntriesLaws.{entries-length}
 use Rattle.walk.specs.Walk.{Opened, imageIn}
 use Rattle.walk.proofs.HeadLaws.{means}
 use Rattle.loader.specs.Output.{Output, Room, holding, outputAs}
 use Rattle.loader.specs.Sizes.{tooShort, classAnswered}
+use Rattle.loader.specs.Least.{leastLength, streamsLength}
 use Rattle.loader.specs.declared.changes.Loading.{Loading}
-use Rattle.loader.proofs.BlockLaws.{part-fits, entries-fit}
-use Rattle.loader.proofs.BlocksLaws.{class-grows}
+use Rattle.loader.proofs.LeastLaws.{least-any}
+use Rattle.loader.proofs.KeptLaws.{top-most, class-most, kept-fits, kept-least}
 
--- ---- the kept entries fit
-
-abbrev EachFits : SignalEncoding → (C : ℕ) → List Entry → Type 0
-EachFits k c [] = Unit {0}
-EachFits k c (e ∷ es) = ContentFits k (e .content) × (classOfAll (symbolsOf (e .content)) ≤ c) × EachFits k c es
-
-one-fits : (k : SignalEncoding) (c : ℕ) (out : List Entry) (e : Entry) → EachFits k c out → ContentFits k (e .content) → classOfAll (symbolsOf (e .content)) ≤ c → EachFits k c (out ++ e ∷ [])
-one-fits k c [] e f g h = (g, h, tt)
-one-fits k c (o ∷ out) e f g h = (f .0, f .1, one-fits k c out e (f .2) g h)
-
-picked-fits : (k : SignalEncoding) (c : ℕ) (t : Bool) (out : List Entry) (e : Entry) → EachFits k c out → ContentFits k (e .content) → classOfAll (symbolsOf (e .content)) ≤ c
-    → EachFits k c (pick t out (out ++ e ∷ []))
-picked-fits k c true out e f g h = f
-picked-fits k c false out e f g h = one-fits k c out e f g h
-
-pushed-fits : (k : SignalEncoding) (c : ℕ) (out es : List Entry) → EachFits k c out → EachFits k c es → EachFits k c (pushed out es)
-unfolding pushed
-pushed-fits k c out [] f g = f
-pushed-fits k c out (e ∷ es) f g =
-    pushed-fits k c (pick (repeatsLast out (e .content)) out (out ++ e ∷ [])) es (picked-fits k c (repeatsLast out (e .content)) out e f (g .0) (g .1)) (g .2)
-
-moved-fits : (k : SignalEncoding) (c n i top base : ℕ) (es : List Entry) → EntriesFit k n i top es → top ≤ c → EachFits k c (moved base es)
-unfolding moved
-moved-fits k c n i top base [] f h = tt
-moved-fits k c n i top base (e ∷ es) f h = (f .0 .content, omega (arith, f .0 .class), moved-fits k c n (e .index) top base es (f .1) h)
-
-top-two : (k : SignalEncoding) (n i before : ℕ) (p : Option (Part (List Entry))) → OptionFits k n i before p → topIn p ≤ 2
-top-two k n i before none f = omega arith
-top-two k n i before (some p) f = by k (f .most)
-  where
-    by : (k : SignalEncoding) → p .top ≤ topLimit k → p .top ≤ 2
-    by (BitVector zero) h = omega arith
-    by (BitVector (suc w)) h = h
-    by Real h = omega arith
-    by Absent h = omega arith
-
-pub class-two : (limit : ℕ) (ks : List SignalEncoding) (end : Option ℕ) (tops : List ℕ) (g : ℕ) (l : Load) (bs : List (Block (List Entry)))
-    → BlocksFit limit ks end tops bs → l .class ≤ 2 → loadFrom g l bs .class ≤ 2
-unfolding loadFrom
-class-two limit ks end tops g l [] f h = h
-class-two limit ks end tops g l (y ∷ bs) f h =
-    let p = part-fits (length (y .times)) (firstIndex end) ks tops (y .parts) g (f .0 .parts) in
-    let t = top-two (getD ks g Absent) _ _ (p .0) (partAt y g) (p .1) in
-    class-two limit ks (some (lastOr 0 (y .times))) (topsAfter tops (y .parts)) g (loadBlock g l y) bs (f .1) (omega arith)
-
-loads-fit : (limit : ℕ) (ks : List SignalEncoding) (end : Option ℕ) (tops : List ℕ) (g c : ℕ) (l : Load) (bs : List (Block (List Entry)))
-    → BlocksFit limit ks end tops bs → loadFrom g l bs .class ≤ c → EachFits (getD ks g Absent) c (l .entries) → EachFits (getD ks g Absent) c (loadFrom g l bs .entries)
-unfolding loadFrom
-loads-fit limit ks end tops g c l [] f h e = e
-loads-fit limit ks end tops g c l (y ∷ bs) f h e =
-    let p = part-fits (length (y .times)) (firstIndex end) ks tops (y .parts) g (f .0 .parts) in
-    let k = getD ks g Absent in
-    let q = class-grows g (loadBlock g l y) bs in
-    let new = moved-fits k c (length (y .times)) (firstIndex end) (topIn (partAt y g)) (length (l .times) - overlap (l .times) (y .times)) (entriesIn (partAt y g))
-    (entries-fit k (length (y .times)) (firstIndex end) (p .0) (partAt y g) (p .1)) (omega arith) in
-    loads-fit limit ks (some (lastOr 0 (y .times))) (topsAfter tops (y .parts)) g c (loadBlock g l y) bs (f .1) h (pushed-fits k c (l .entries) _ e new)
-
-bytes-size : (k : SignalEncoding) (c : ℕ) (es : List Entry) → EachFits k c es → c ≤ 2 → length (entriesBytes k c es) ≡ length es * entryLength k c
-unfolding entriesBytes
-bytes-size k c [] f h = omega arith
-bytes-size k c (e ∷ es) f h =
-    let n = bytes-size k c es (f .2) h in
-    let m = entry-length k c (e .content) (f .0) (f .1) h in
-    length-append (entryBytes k c (e .content)) (entriesBytes k c es) ∙ omega arith
-
-nine-fits : (k : SignalEncoding) (c : ℕ) (es : List Entry) → EachFits k c es → EachFits k (orNine es c) es
-nine-fits k c [] f = tt
-nine-fits k c (e ∷ es) f = f
-
-nine-two : (es : List Entry) (c : ℕ) → c ≤ 2 → (orNine es c ≤ 2) × (c ≤ orNine es c)
-nine-two [] c h = (omega arith, h)
-nine-two (e ∷ es) c h = (h, omega arith)
+-- ---- the kept entries
 
 answered-nine : (es : List Entry) (c : ℕ) → classAnswered (length es) c ≡ orNine es c
 answered-nine [] c = refl
 answered-nine (e ∷ es) c = refl
 
+-- where there is no entry, its class does not matter
+nine-bytes : (k : SignalEncoding) (c : ℕ) (es : List Entry) → entriesBytes k (orNine es c) es ≡ entriesBytes k c es
+unfolding entriesBytes
+nine-bytes k c [] = refl
+nine-bytes k c (e ∷ es) = refl
+
+nine-length : (k : SignalEncoding) (c : ℕ) (es : List Entry) → length es * entryLength k (orNine es c) ≡ length es * entryLength k c
+nine-length k c [] = omega arith
+nine-length k c (e ∷ es) = refl
+
 -- what holds of a signal's kept entries
 pub record Sized (b : List ℕ) (g : ℕ) : Type 0 where
   pub top : loads g (imageIn b .blocks) .class ≤ 2
-  pub class : signalClass (loads g (imageIn b .blocks)) ≤ 2
-  pub most : loads g (imageIn b .blocks) .class ≤ signalClass (loads g (imageIn b .blocks))
-  pub bytes : length (entriesBytes (kindAt (imageIn b) g) (signalClass (loads g (imageIn b .blocks))) (loads g (imageIn b .blocks) .entries))
-      ≡ length (loads g (imageIn b .blocks) .entries) * entryLength (kindAt (imageIn b) g) (signalClass (loads g (imageIn b .blocks)))
+  pub same : entriesBytes (kindAt (imageIn b) g) (signalClass (loads g (imageIn b .blocks))) (loads g (imageIn b .blocks) .entries)
+      ≡ entriesBytes (kindAt (imageIn b) g) (loads g (imageIn b .blocks) .class) (loads g (imageIn b .blocks) .entries)
+  pub bytes : length (entriesBytes (kindAt (imageIn b) g) (loads g (imageIn b .blocks) .class) (loads g (imageIn b .blocks) .entries))
+      ≡ length (loads g (imageIn b .blocks) .entries) * entryLength (kindAt (imageIn b) g) (loads g (imageIn b .blocks) .class)
+  pub few : length (loads g (imageIn b .blocks) .entries) ≤ streamsLength (kindAt (imageIn b) g) g (imageIn b .blocks) / leastLength (kindAt (imageIn b) g)
 
 pub sized : (b : List ℕ) (g : ℕ) → Bytes b → Opened b → Sized b g
 sized b g y o =
@@ -133,10 +67,13 @@ sized b g y o =
     let v = means b y o .valid in
     let l = loads g (x .blocks) in
     let k = kindAt x g in
-    let t : l .class ≤ 2 = class-two (x .limit) (x .kinds) none [] g (load [] [] 0) (x .blocks) (v .blocks) (omega arith) in
-    let n = nine-two (l .entries) (l .class) t in
-    let f : EachFits k (l .class) (l .entries) = loads-fit (x .limit) (x .kinds) none [] g (l .class) (load [] [] 0) (x .blocks) (v .blocks) (omega arith) tt in
-    record { top = t; class = n .0; most = n .1; bytes = bytes-size k (signalClass l) (l .entries) (nine-fits k (l .class) (l .entries) f) (n .0) }
+    let s = nine-bytes k (l .class) (l .entries) in
+    record {
+      top = top-most x v g;
+      same = s;
+      bytes = sym (ap length s) ∙ entries-length k (signalClass l) (l .entries) (kept-fits x v g) (class-most x v g) ∙ nine-length k (l .class) (l .entries);
+      few = le-div-iff-mul-le (least-any k) .1 (kept-least x v g);
+    }
 
 -- ---- the kind
 
@@ -178,9 +115,22 @@ short-index k c n i b h = rw (lt-ltb i n h) refl
 pub short-bytes : (k : SignalEncoding) (c n i b m : ℕ) → n ≤ i → m ≡ entryLength k c → ltb b (n * m) ≡ tooShort k c n i b
 short-bytes k c n i b m h e = rw (le-ltb i n h, e) refl
 
-pub class-other : (n t : ℕ) (s : States) → t ≤ 2 → (n ≡ 0 → ⊥) → s ≡ statesOf t → classNumber s ≡ classAnswered n t
-class-other zero t s h z e = absurd (z refl)
-class-other (suc n) t s h z e = ap classNumber e ∙ number-states t h
+-- there is room for so many entries
+room-of : (k : SignalEncoding) (c n i b : ℕ) → tooShort k c n i b ≡ false → (n ≤ i) × (n * entryLength k c ≤ b)
+room-of k c n i b h =
+    let q = none-holds (ltb i n) (ltb b (n * entryLength k c)) h in
+    (ltb-false i n (q .0), ltb-false b (n * entryLength k c) (q .1))
+
+-- where there is room for more, there is for fewer
+pub room-fewer : (k : SignalEncoding) (c n m i b : ℕ) → n ≤ m → tooShort k c m i b ≡ false → false ≡ tooShort k c n i b
+room-fewer k c n m i b h e =
+    let r = room-of k c m i b e in
+    let f : n * entryLength k c ≤ m * entryLength k c = mul-le-mul h (omega arith) in
+    rw (le-ltb i n (omega arith), le-ltb b (n * entryLength k c) (omega arith)) refl
+
+pub class-other : (n c : ℕ) → (n ≡ 0 → ⊥) → c ≡ classAnswered n c
+class-other zero c z = absurd (z refl)
+class-other (suc n) c z = refl
 
 -- ---- the answers
 
@@ -196,52 +146,48 @@ module _ (x : Image) (g : ℕ) (k : SignalEncoding) (index bytes : List ℕ) (e 
   unfolding loadIn
   answer-unknown t f h = rw (unknown-is, ← f, h) refl
 
--- after the first pass
-pub record Counted (b : List ℕ) (g : ℕ) (index bytes : List ℕ) (n c : ℕ) (i j : List ℕ) : Type 0 where
-  pub count : n ≡ length (loads g (imageIn b .blocks) .entries)
-  pub class : c ≡ signalClass (loads g (imageIn b .blocks))
-  pub same-index : i ≡ index
-  pub same-bytes : j ≡ bytes
+-- after a pass that counts
+pub counted-short : (b : List ℕ) (g : ℕ) (k : SignalEncoding) (c : ℕ) (index bytes : List ℕ) (s : Loading) (i j : List ℕ) (t : Bool)
+    → outputAs (kindAt (imageIn b) g) b s i j ≡ holding (kindAt (imageIn b) g) c false index bytes (loads g (imageIn b .blocks) .entries)
+    → t ≡ tooShort k c (s .count) (length i) (length j)
+    → (t ≡ tooShort k c (length (loads g (imageIn b .blocks) .entries)) (length index) (length bytes)) × (i ≡ index) × (j ≡ bytes)
+counted-short b g k c index bytes s i j t q f =
+    let n : s .count ≡ length (loads g (imageIn b .blocks) .entries) = ap (λ (o : Output). o .count) q in
+    let p : i ≡ index = ap (λ (o : Output). o .index) q in
+    let r : j ≡ bytes = ap (λ (o : Output). o .bytes) q in
+    (f ∙ rw (n, p, r) refl, p, r)
 
-pub counted : (b : List ℕ) (g : ℕ) (index bytes : List ℕ) (s : Loading) (c : ℕ) (i j : List ℕ)
-    → s .top ≡ loads g (imageIn b .blocks) .class → c ≡ classAnswered (s .count) (s .top)
-    → outputAs (kindAt (imageIn b) g) b s i j ≡ holding (kindAt (imageIn b) g) 2 false index bytes (loads g (imageIn b .blocks) .entries) → Counted b g index bytes (s .count) c i j
-counted b g index bytes s c i j t f q =
-    let l = loads g (imageIn b .blocks) in
-    let n : s .count ≡ length (l .entries) = ap (λ (o : Output). o .count) q in
-    record {
-      count = n;
-      class = f ∙ ap (λ (m : ℕ). classAnswered m (s .top)) n ∙ ap (classAnswered (length (l .entries))) t ∙ answered-nine (l .entries) (l .class);
-      same-index = ap (λ (o : Output). o .index) q;
-      same-bytes = ap (λ (o : Output). o .bytes) q;
-    }
-
-module _ (b : List ℕ) (g : ℕ) (k : SignalEncoding) (index bytes : List ℕ) (n c : ℕ) (i j : List ℕ) (e : k ≡ kindAt (imageIn b) g) (z : Sized b g)
-    (m : Counted b g index bytes n c i j) (u : Bool) (a : u ≡ absent k) (d : u ≡ false) (t : Bool) (f : t ≡ tooShort k c n (length i) (length j)) where
+-- after the test of the outputs, in the class c of the blocks
+module _ (b : List ℕ) (g : ℕ) (k : SignalEncoding) (index bytes : List ℕ) (c : ℕ) (i j : List ℕ) (e : k ≡ kindAt (imageIn b) g) (z : Sized b g)
+    (m : c ≡ loads g (imageIn b .blocks) .class) (same-index : i ≡ index) (same-bytes : j ≡ bytes) (u : Bool) (a : u ≡ absent k) (d : u ≡ false)
+    (t : Bool) (f : t ≡ tooShort k c (length (loads g (imageIn b .blocks) .entries)) (length index) (length bytes)) where
   abbrev l : Load
   l = loads g (imageIn b .blocks)
 
   test : (ltb (length index) (length (l .entries)) || ltb (length bytes) (length (entriesBytes (kindAt (imageIn b) g) (signalClass l) (l .entries)))) ≡ t
-  test = rw (z .bytes, ← (m .count), ← (m .class), ← (m .same-index), ← (m .same-bytes), ← e) (sym f)
+  test = rw (z .same, z .bytes, ← m, ← e) (sym f)
 
   here : unknownSignal (imageIn b) g ≡ false
   here = unknown-is (imageIn b) g k index bytes e ∙ sym a ∙ d
 
   pub answer-short : t ≡ true → loadAfter (refuse 9) i j ≡ loadIn (imageIn b) g index bytes
   unfolding loadIn
-  answer-short h = rw (here, test, h, m .same-index, m .same-bytes) refl
+  answer-short h = rw (here, test, h, same-index, same-bytes) refl
 
   pub room-all : t ≡ false → Room true (holding (kindAt (imageIn b) g) c true i j (l .entries)) (length i) (length j)
   room-all h =
-      let q = none-holds (ltb (length i) n) (ltb (length j) (n * entryLength k c)) (sym f ∙ h) in
-      let s : length (entriesBytes (kindAt (imageIn b) g) c (l .entries)) ≡ n * entryLength k c = rw (m .class, m .count, e) (z .bytes) in
-      λ w. (omega (arith, ltb-false (length i) n (q .0), m .count), omega (arith, ltb-false (length j) (n * entryLength k c) (q .1)))
+      let q = room-of k c (length (l .entries)) (length index) (length bytes) (sym f ∙ h) in
+      let s : length (entriesBytes (kindAt (imageIn b) g) c (l .entries)) ≡ length (l .entries) * entryLength k c = rw (m, e) (z .bytes) in
+      λ w. (omega (arith, q .0, ap length same-index), omega (arith, q .1, ap length same-bytes))
 
-  pub answer-loaded : (s : Loading) (i' j' : List ℕ) → t ≡ false
+  pub answer-loaded : (s : Loading) (n : ℕ) (i' j' : List ℕ) → t ≡ false → n ≡ classAnswered (s .count) c
       → outputAs (kindAt (imageIn b) g) b s i' j' ≡ holding (kindAt (imageIn b) g) c true i j (l .entries)
-      → loadAfter (loaded n c) i' j' ≡ loadIn (imageIn b) g index bytes
+      → loadAfter (loaded (s .count) n) i' j' ≡ loadIn (imageIn b) g index bytes
   unfolding loadIn
-  answer-loaded s i' j' h q =
-      let p : i' ≡ sets i 0 (map indexIn (l .entries)) = ap (λ (o : Output). o .index) q in
-      let r : j' ≡ sets j 0 (entriesBytes (kindAt (imageIn b) g) c (l .entries)) = ap (λ (o : Output). o .bytes) q in
-      rw (here, test, h, p, r, m .same-index, m .same-bytes, m .class, m .count) refl
+  answer-loaded s n i' j' h r q =
+      let count : s .count ≡ length (l .entries) = ap (λ (o : Output). o .count) q in
+      let class : n ≡ signalClass l = r ∙ ap (λ (v : ℕ). classAnswered v c) count ∙ answered-nine (l .entries) c ∙ ap (orNine (l .entries)) m in
+      let p : i' ≡ sets index 0 (map indexIn (l .entries)) = ap (λ (o : Output). o .index) q ∙ ap (λ (v : List ℕ). sets v 0 (map indexIn (l .entries))) same-index in
+      let w : j' ≡ sets bytes 0 (entriesBytes (kindAt (imageIn b) g) (signalClass l) (l .entries)) =
+      ap (λ (o : Output). o .bytes) q ∙ rw (same-bytes, z .same, m) refl in
+      rw (here, test, h, p, w, count, class) refl

@@ -1,6 +1,6 @@
 -- The changes of a stream, one after the other, at their places in the image.
 -- Assumes nothing.
-use Prim.Native.Nat.{ℕ, zero, suc, _+_, _-_, _*_, _≤_, _<_}
+use Prim.Native.Nat.{ℕ, _+_, _-_, _≤_, _<_}
 use mathlib.Core.Path.{_≡_, refl, sym, ap, _∙_, subst}
 use mathlib.Core.Bool.{Bool}
 use mathlib.Core.List.{List, [], _∷_, _++_, append-assoc}
@@ -9,15 +9,10 @@ use native.Mathlib.Omega.{arith}
 use lib.ListN.{length, drop, length-append, length-drop}
 use Rattle.lists.specs.Got.{got}
 use Rattle.lists.specs.Bytes.{Bytes}
-use Rattle.numbers.specs.Leb128.{lebOf}
-use Rattle.numbers.proofs.Leb128Laws.{leb-any}
 use Rattle.value.specs.Class.{classOfAll}
-use Rattle.packed.specs.Packed.{packed}
-use Rattle.numbers.specs.LittleEndian.{le}
 use Rattle.signal.specs.declared.kind.SignalEncoding.{SignalEncoding}
-use Rattle.signal.specs.declared.kind.SignalEncoding.the-variants.{BitVector, Real, Absent}
 use Rattle.signal.specs.declared.decode.ChangeValue.{ChangeValue}
-use Rattle.signal.specs.Content.{Content, ContentFits, symbolsOf, realBits}
+use Rattle.signal.specs.Content.{Content, ContentFits, symbolsOf}
 use Rattle.stream.specs.declared.read.ReadChange.the-variants as read
 use Rattle.stream.specs.Stream.{Change, change, changeBytes, readChange}
 use Rattle.stream.specs.Answer.{changeAt, readAs}
@@ -30,18 +25,12 @@ use Rattle.entry.proofs.ReadThere.{ReadThere, read-there}
 use Rattle.entry.specs.Kept.{KeptReads}
 use Rattle.loader.specs.Output.{Output, taken, allTaken, Room, outputAs}
 use Rattle.loader.specs.declared.changes.Loading.{Loading}
+use Rattle.loader.proofs.LeastLaws.{least-any, change-least}
 use Rattle.loader.proofs.OutputLaws.{Grows, all-grows, taken-grows, room-first}
 
 -- a change has a byte
 change-some : (k : SignalEncoding) (d : ℕ) (c : Content) → ContentFits k c → 0 < length (changeBytes k d c)
-unfolding changeBytes
-change-some (BitVector zero) d c f = leb-any d
-change-some (BitVector (suc zero)) d c f = leb-any _
-change-some (BitVector (suc (suc w))) d c f =
-    let s : List ℕ = symbolsOf c in
-    omega (arith, leb-any (d * 4 + classOfAll s), length-append (lebOf (d * 4 + classOfAll s)) (packed (classOfAll s) s))
-change-some Real d c f = omega (arith, leb-any d, length-append (lebOf d) (le 8 (realBits c)))
-change-some Absent d c f = absurd f
+change-some k d c f = omega (arith, least-any k, change-least k d c f)
 
 -- from p to `to` stands the stream of entries that are still to come, after a change at the index prev; none is before the index least
 pub record Ahead (k : SignalEncoding) (b : List ℕ) (n top p to : ℕ) : Type 0 where

@@ -1,3 +1,4 @@
 pub mod Output
 pub mod Blocks
 pub mod Sizes
+pub mod Least

@@ -52,7 +52,7 @@ Room w o i b = w ≡ true → (o .count ≤ i) × (o .used ≤ b)
 -- ---- what the code holds of it: the last kept change by its place in the image
 
 abbrev pub nothingKept : Loading
-nothingKept = record { count = 0; used = 0; top = 0; last = Nothing }
+nothingKept = record { count = 0; used = 0; last = Nothing }
 
 abbrev pub outputAs : SignalEncoding → (image : List ℕ) → Loading → (index bytes : List ℕ) → Output
 outputAs k b s i o = output (s .count) (s .used) (keptContent k b (s .last)) i o

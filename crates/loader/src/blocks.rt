@@ -28,7 +28,7 @@ pub fn load_blocks(
     bytes: &mut [u8],
 ) -> Loading
     requires { ⌜ Opened (now image) × (loads signal (imageIn (now image) .blocks) .class ≤ classNumber class) × Room write (allLoaded (now image) signal (classNumber class) write (now index) (now bytes)) (length (now index)) (length (now bytes)) ⌝ }
-    ensures { λ r. ⌜ (r .top ≡ loads signal (imageIn (now (image .entry)) .blocks) .class) × (r .count ≤ imageLimit) × (outputIn (now (image .entry)) signal r (now (index .exit)) (now (bytes .exit)) ≡ allLoaded (now (image .entry)) signal (classNumber class) write (now (index .entry)) (now (bytes .entry))) ⌝ }
+    ensures { λ r. ⌜ (r .count ≤ imageLimit) × (outputIn (now (image .entry)) signal r (now (index .exit)) (now (bytes .exit)) ≡ allLoaded (now (image .entry)) signal (classNumber class) write (now (index .entry)) (now (bytes .entry))) ⌝ }
 {
     let blocks = block_count(image);
     let mut at = first_block(image);

@@ -10,7 +10,7 @@ use value::states::States;
 use walk::head::kind_at;
 use walk::part::part_in;
 ghost use mathlib.Core.Path.{_≡_};
-ghost use Prim.Native.Nat.{suc, _+_, _≤_, _<_, max, _^_};
+ghost use Prim.Native.Nat.{suc, _+_, _≤_, _<_, _^_};
 ghost use lib.ListN.{length, set};
 ghost use lib.Seq.{sets};
 ghost use Rattle.value.specs.Class.{classNumber, classOfAll};
@@ -23,11 +23,10 @@ ghost use Rattle.walk.specs.Walk.{Opened, imageIn, blockPlace, BlockHere};
 ghost use Rattle.loader.specs.Output.{taken, Room, nothingKept, outputAs};
 ghost use Rattle.loader.specs.Blocks.{baseOf, topOf, outputIn, blockTaken};
 
-// How many entries are kept, how many bytes of the output they took, the largest top class, the last of them.
+// How many entries are kept, how many bytes of the output they took, the last of them.
 pub struct Loading {
     pub count: u32,
     pub used: usize,
-    pub top: u8,
     pub last: KeptChange,
 }
 
@@ -38,7 +37,6 @@ pub fn nothing_kept() -> Loading
     Loading {
         count: 0,
         used: 0,
-        top: 0,
         last,
     }
 }
@@ -68,16 +66,10 @@ fn write_entry(
 // With one entry more, of which so many bytes are used then.
 fn one_more(state: Loading, used: usize, last: KeptChange) -> Loading
     requires { ⌜ state .count + 1 < 2 ^ 32 ⌝ }
-    ensures { λ r. ⌜ (r .count ≡ state .count + 1) × (r .used ≡ used) × (r .top ≡ state .top) × (r .last ≡ last) ⌝ }
+    ensures { λ r. ⌜ (r .count ≡ state .count + 1) × (r .used ≡ used) × (r .last ≡ last) ⌝ }
 {
     let count = state.count + 1;
-    let top = state.top;
-    Loading {
-        count,
-        used,
-        top,
-        last,
-    }
+    Loading { count, used, last }
 }
 
 // One change, at the index i of the combined table.
@@ -95,7 +87,7 @@ fn take_change(
 ) -> Loading
     requires { ⌜ KeptReads kind (now image) (state .last) × Reads kind (now image) value next × (classOfAll (symbolsOf (contentRead kind (now image) value next)) ≤ classNumber class) ⌝ }
     requires { ⌜ (state .count + 1 < 2 ^ 32) × Room write (taken kind (classNumber class) write (outputAs kind (now image) state (now index) (now bytes)) i (contentRead kind (now image) value next)) (length (now index)) (length (now bytes)) ⌝ }
-    ensures { λ r. ⌜ KeptReads kind (now (image .entry)) (r .last) × (r .top ≡ state .top) × (r .count ≤ state .count + 1) × (outputAs kind (now (image .entry)) r (now (index .exit)) (now (bytes .exit)) ≡ taken kind (classNumber class) write (outputAs kind (now (image .entry)) state (now (index .entry)) (now (bytes .entry))) i (contentRead kind (now (image .entry)) value next)) ⌝ }
+    ensures { λ r. ⌜ KeptReads kind (now (image .entry)) (r .last) × (r .count ≤ state .count + 1) × (outputAs kind (now (image .entry)) r (now (index .exit)) (now (bytes .exit)) ≡ taken kind (classNumber class) write (outputAs kind (now (image .entry)) state (now (index .entry)) (now (bytes .entry))) i (contentRead kind (now (image .entry)) value next)) ⌝ }
 {
     let kept = state.last;
     if repeats_last(image, kind, kept, value, next) {
@@ -108,29 +100,6 @@ fn take_change(
     }
     let used = state.used;
     one_more(state, used, last)
-}
-
-// The top class never falls.
-fn raised(state: Loading, top: u8) -> Loading
-    ensures { λ r. ⌜ (r .top ≡ max (state .top) top) × (r .count ≡ state .count) × (r .used ≡ state .used) × (r .last ≡ state .last) ⌝ }
-{
-    let count = state.count;
-    let used = state.used;
-    let last = state.last;
-    if top <= state.top {
-        return Loading {
-            count,
-            used,
-            top: state.top,
-            last,
-        };
-    }
-    Loading {
-        count,
-        used,
-        top,
-        last,
-    }
 }
 
 // Where the times of a block begin in the combined table: its first time is there already, unless it is the first block.
@@ -159,14 +128,14 @@ pub fn load_block(
 ) -> Loading
     requires { ⌜ Opened (now image) × BlockHere number at (now image) × KeptReads (kindAt (imageIn (now image)) signal) (now image) (state .last) × (topOf (imageIn (now image)) number signal ≤ classNumber class) ⌝ }
     requires { ⌜ (number ≤ times) × (times ≤ at) × (state .count ≤ at) × Room write (blockTaken (now image) number signal times (classNumber class) write (outputIn (now image) signal state (now index) (now bytes))) (length (now index)) (length (now bytes)) ⌝ }
-    ensures { λ r. ⌜ KeptReads (kindAt (imageIn (now (image .entry))) signal) (now (image .entry)) (r .last) × (r .top ≡ max (state .top) (topOf (imageIn (now (image .entry))) number signal)) × (r .count ≤ blockPlace (imageIn (now (image .entry))) (suc number)) × (outputIn (now (image .entry)) signal r (now (index .exit)) (now (bytes .exit)) ≡ blockTaken (now (image .entry)) number signal times (classNumber class) write (outputIn (now (image .entry)) signal state (now (index .entry)) (now (bytes .entry)))) ⌝ }
+    ensures { λ r. ⌜ KeptReads (kindAt (imageIn (now (image .entry))) signal) (now (image .entry)) (r .last) × (r .count ≤ blockPlace (imageIn (now (image .entry))) (suc number)) × (outputIn (now (image .entry)) signal r (now (index .exit)) (now (bytes .exit)) ≡ blockTaken (now (image .entry)) number signal times (classNumber class) write (outputIn (now (image .entry)) signal state (now (index .entry)) (now (bytes .entry)))) ⌝ }
 {
     let kind = kind_at(image, signal);
     let part = part_in(image, at, signal);
     let to = part.to;
     let mut p = part.from;
     let mut i = table_base(number, times);
-    let mut state = raised(state, part.top);
+    let mut state = state;
     while p < to {
         match read_change(image, p, kind) {
             ReadChange::Change(d, value, next) => {

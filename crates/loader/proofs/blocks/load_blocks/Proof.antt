@@ -110,7 +110,7 @@ loop-again c =
     ap (λ (n : ℕ). n + c .before .times-in .result) (c .before .before .table-base .ensures) ∙ ap (λ (n : ℕ). baseOf (l .number) (l .times) + n) m in
     passing-on (a .image .now) (a .signal) (classNumber (a .class)) (a .write) (a .index .now) (a .bytes .now) (l .number) (l .at) (l .times) (l .state) (l .index) (l .bytes)
     (λ j. f .before .before .before .before .shared-slice-known .given j .fits) (f .before .before .before .before .before .pre .0) (l .inv) (below t)
-    _ _ (c .before .before .before .before .before .before .before .load-block .result) _ _ sum (c .next-block .ensures (l .number) h) (e .0) (e .1) (e .2) (e .3)
+    _ _ (c .before .before .before .before .before .before .before .load-block .result) _ _ sum (c .next-block .ensures (l .number) h) (e .0) (e .1) (e .2)
 
 same-length : tie.Need-same-length Inv-loop μ-loop
 same-length c =

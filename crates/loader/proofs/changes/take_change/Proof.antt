@@ -1,6 +1,6 @@
 -- By whether it repeats, and whether outputs are written.
 use Prim.Native.Nat.{ℕ, _+_}
-use mathlib.Core.Path.{refl, sym, _∙_, subst}
+use mathlib.Core.Path.{sym, _∙_, subst}
 use mathlib.Core.List.{List}
 use native.Mathlib.Omega.{arith}
 use lib.ListN.{length}
@@ -23,7 +23,7 @@ returns c =
     let p = c .before .before .before .before .before in
     let a = p .args in
     let b : List ℕ = a .image .now in
-    (p .pre .0 .0, refl, omega arith, taken-same (a .kind) (classNumber (a .class)) (a .write) (outputAs (a .kind) b (a .state) (a .index .now) (a .bytes .now)) (a .i) (contentRead (a .kind) b (a .value) (a .next)) _ (c .before .repeats-last .ensures) (c .if1 .taken))
+    (p .pre .0 .0, omega arith, taken-same (a .kind) (classNumber (a .class)) (a .write) (outputAs (a .kind) b (a .state) (a .index .now) (a .bytes .now)) (a .i) (contentRead (a .kind) b (a .value) (a .next)) _ (c .before .repeats-last .ensures) (c .if1 .taken))
 
 write-entry-requires : tie.Need-write-entry-requires
 write-entry-requires c κs =
@@ -52,10 +52,9 @@ returns-2 c =
     let b : List ℕ = a .image .now in
     let w = q .write-entry .ensures in
     let e = c .one-more .ensures in (
-      subst (λ (l : KeptChange). KeptReads (a .kind) b l) (sym (e .3)) (p .pre .0 .1),
-      e .2,
+      subst (λ (l : KeptChange). KeptReads (a .kind) b l) (sym (e .2)) (p .pre .0 .1),
       omega (arith, e .0),
-      output-of (a .kind) b (c .one-more .result) (a .state .count + 1) (q .write-entry .result) (last.Change (a .value) (a .next)) _ _ (e .0) (e .1) (e .3)
+      output-of (a .kind) b (c .one-more .result) (a .state .count + 1) (q .write-entry .result) (last.Change (a .value) (a .next)) _ _ (e .0) (e .1) (e .2)
           ∙ taken-writes (a .kind) (classNumber (a .class)) (a .write) (outputAs (a .kind) b (a .state) (a .index .now) (a .bytes .now)) (a .i) (contentRead (a .kind) b (a .value) (a .next))
           _ (q .before .before .before .before .before .repeats-last .ensures) _ _ _ (q .before .before .before .before .if1 .left) (q .before .before .before .if2 .taken) (w .0) (w .1) (w .2),
     )
@@ -69,10 +68,9 @@ returns-3 c =
     let a = p .args in
     let b : List ℕ = a .image .now in
     let e = c .one-more2 .ensures in (
-      subst (λ (l : KeptChange). KeptReads (a .kind) b l) (sym (e .3)) (p .pre .0 .1),
-      e .2,
+      subst (λ (l : KeptChange). KeptReads (a .kind) b l) (sym (e .2)) (p .pre .0 .1),
       omega (arith, e .0),
-      output-of (a .kind) b (c .one-more2 .result) (a .state .count + 1) (a .state .used) (last.Change (a .value) (a .next)) _ _ (e .0) (e .1) (e .3)
+      output-of (a .kind) b (c .one-more2 .result) (a .state .count + 1) (a .state .used) (last.Change (a .value) (a .next)) _ _ (e .0) (e .1) (e .2)
           ∙ taken-counts (a .kind) (classNumber (a .class)) (a .write) (outputAs (a .kind) b (a .state) (a .index .now) (a .bytes .now)) (a .i) (contentRead (a .kind) b (a .value) (a .next)) _ (c .before .before .before .repeats-last .ensures) (c .before .before .if1 .left) (c .before .if2 .left),
     )
 

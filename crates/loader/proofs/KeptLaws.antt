@@ -1,7 +1,7 @@
 -- The kept entries of a signal of a valid image: their contents fit its kind, their classes its class, their indices the combined table.
 -- And they are no more than the signal's streams have room for.
 -- Assumes nothing.
-use Prim.Native.Nat.{ℕ, suc, _+_, _-_, _*_, _≤_, _<_}
+use Prim.Native.Nat.{ℕ, zero, suc, _+_, _-_, _*_, _≤_, _<_}
 use mathlib.Core.Path.{_≡_, refl, ap, _∙_}
 use mathlib.Core.Bool.{Bool, true, false}
 use mathlib.Core.List.{List, [], _∷_, _++_}
@@ -14,20 +14,20 @@ use Rattle.lists.specs.Choice.{pick}
 use Rattle.lists.specs.Last.{lastOr}
 use Rattle.value.specs.Class.{classOfAll}
 use Rattle.signal.specs.declared.kind.SignalEncoding.{SignalEncoding}
-use Rattle.signal.specs.declared.kind.SignalEncoding.the-variants.{Absent}
+use Rattle.signal.specs.declared.kind.SignalEncoding.the-variants.{BitVector, Real, Absent}
+use Rattle.signal.specs.Kind.{topLimit}
 use Rattle.signal.specs.Content.{ContentFits, symbolsOf}
-use Rattle.stream.specs.Stream.{changeBytes}
-use Rattle.stream.specs.Entries.{Entry, streamBytes, orNine}
+use Rattle.stream.specs.Entries.{Entry, orNine}
 use Rattle.image.specs.Block.{Part, Block}
 use Rattle.image.specs.Image.{Image}
 use Rattle.codec.specs.Valid.{EntriesFit, OptionFits, topsAfter, firstIndex, BlocksFit, Valid}
 use Rattle.loaded.specs.Opener.{kindAt, partAt, streamIn}
 use Rattle.loaded.specs.Loading.{overlap, joinTimes, tableFrom, moved, repeatsLast, pushed, Load, load, entriesIn, topIn, loadBlock, loadFrom, loads, signalClass}
 use Rattle.entry.proofs.EntriesLaws.{EachFits}
+use Rattle.loader.specs.Least.{leastLength, streamsLength}
 use Rattle.loader.proofs.BlockLaws.{part-fits, entries-fit}
 use Rattle.loader.proofs.BlocksLaws.{class-grows}
-use Rattle.loader.proofs.LoadLaws.{class-two}
-use Rattle.listing.proofs.LengthLaws.{leastLength, change-least}
+use Rattle.loader.proofs.LeastLaws.{part-least}
 
 -- ---- the combined table
 
@@ -109,6 +109,27 @@ module _ (limit : ℕ) (ks : List SignalEncoding) (g : ℕ) where
       (omega (arith, times-grow g (loadBlock g l y) bs, joined-length (l .times) (y .times))) in
       loads-kept c n (some (lastOr 0 (y .times))) (topsAfter tops (y .parts)) (loadBlock g l y) bs (f .1) h z (pushed-kept kind c n (l .entries) _ e new)
 
+-- ---- the class
+
+top-two : (k : SignalEncoding) (n i before : ℕ) (p : Option (Part (List Entry))) → OptionFits k n i before p → topIn p ≤ 2
+top-two k n i before none f = omega arith
+top-two k n i before (some p) f = by k (f .most)
+  where
+    by : (k : SignalEncoding) → p .top ≤ topLimit k → p .top ≤ 2
+    by (BitVector zero) h = omega arith
+    by (BitVector (suc w)) h = h
+    by Real h = omega arith
+    by Absent h = omega arith
+
+class-two : (limit : ℕ) (ks : List SignalEncoding) (end : Option ℕ) (tops : List ℕ) (g : ℕ) (l : Load) (bs : List (Block (List Entry)))
+    → BlocksFit limit ks end tops bs → l .class ≤ 2 → loadFrom g l bs .class ≤ 2
+unfolding loadFrom
+class-two limit ks end tops g l [] f h = h
+class-two limit ks end tops g l (y ∷ bs) f h =
+    let p = part-fits (length (y .times)) (firstIndex end) ks tops (y .parts) g (f .0 .parts) in
+    let t = top-two (getD ks g Absent) _ _ (p .0) (partAt y g) (p .1) in
+    class-two limit ks (some (lastOr 0 (y .times))) (topsAfter tops (y .parts)) g (loadBlock g l y) bs (f .1) (omega arith)
+
 nine-most : (es : List Entry) (c : ℕ) → c ≤ 2 → orNine es c ≤ 2
 nine-most [] c h = omega arith
 nine-most (e ∷ es) c h = h
@@ -121,8 +142,11 @@ module _ (x : Image) (v : Valid x) (g : ℕ) where
   abbrev loaded : Load
   loaded = loads g (x .blocks)
 
+  pub top-most : loaded .class ≤ 2
+  top-most = class-two (x .limit) (x .kinds) none [] g (load [] [] 0) (x .blocks) (v .blocks) (omega arith)
+
   pub class-most : signalClass loaded ≤ 2
-  class-most = nine-most (loaded .entries) (loaded .class) (class-two (x .limit) (x .kinds) none [] g (load [] [] 0) (x .blocks) (v .blocks) (omega arith))
+  class-most = nine-most (loaded .entries) (loaded .class) top-most
 
   pub each-kept : EachKept (kindAt x g) (signalClass loaded) (length (tableFrom [] (x .blocks))) (loaded .entries)
   each-kept =
@@ -153,23 +177,6 @@ length-moved : (n : ℕ) (es : List Entry) → length (moved n es) ≡ length es
 unfolding moved
 length-moved n [] = refl
 length-moved n (e ∷ es) = ap suc (length-moved n es)
-
-stream-least : (k : SignalEncoding) (n j i top : ℕ) (es : List Entry) → EntriesFit k n i top es → length es * leastLength k ≤ length (streamBytes k j es)
-unfolding streamBytes
-stream-least k n j i top [] f = omega arith
-stream-least k n j i top (e ∷ es) f =
-    let c = change-least k (e .index - j) (e .content) (f .0 .content) in
-    let r = stream-least k n (e .index) (e .index) top es (f .1) in
-    omega (arith, length-append (changeBytes k (e .index - j) (e .content)) (streamBytes k (e .index) es))
-
-part-least : (k : SignalEncoding) (n i before : ℕ) (p : Option (Part (List Entry))) → OptionFits k n i before p → length (entriesIn p) * leastLength k ≤ length (streamIn k p)
-part-least k n i before none f = omega arith
-part-least k n i before (some p) f = stream-least k n 0 i (p .top) (p .stream) (f .entries)
-
--- the bytes of a signal's streams in all blocks
-unfoldable pub streamsLength : SignalEncoding → (signal : ℕ) → List (Block (List Entry)) → ℕ
-streamsLength k g [] = 0
-streamsLength k g (y ∷ bs) = length (streamIn k (partAt y g)) + streamsLength k g bs
 
 kept-few : (limit : ℕ) (ks : List SignalEncoding) (g : ℕ) (end : Option ℕ) (tops : List ℕ) (l : Load) (bs : List (Block (List Entry))) → BlocksFit limit ks end tops bs
     → length (loadFrom g l bs .entries) * leastLength (getD ks g Absent) ≤ length (l .entries) * leastLength (getD ks g Absent) + streamsLength (getD ks g Absent) g bs

@@ -1,0 +1,67 @@
+-- By whether there is room for as many entries as there can be.
+use Prim.Native.Nat.{ℕ}
+use mathlib.Core.Path.{_≡_, refl, sym, ap, _∙_}
+use mathlib.Core.Bool.{true}
+use native.Mathlib.Omega.{arith}
+use borrow.Author.Tests.{not-true}
+use lib.ListN.{length}
+use Rattle.value.specs.Class.{classNumber}
+use Rattle.signal.specs.Kind.{knownKind}
+use Rattle.loaded.specs.Loading.{loads}
+use Rattle.walk.specs.Walk.{imageIn}
+use Rattle.loader.proofs.LoadLaws.{known, room-fewer, counted-short}
+use borrow.Author.Needs.{needs}
+use Rattle.loader.proofs.load.lacks_room.Statement.{statement}
+use Rattle.loader.proofs.load.lacks_room.Tie as tie
+
+kind-known : (c : tie.After-slice-known2) → knownKind (c .before .before .before .args .kind) ≡ true
+kind-known c =
+    let p = c .before .before .before in
+    ap knownKind (p .pre .0 .1) ∙ known (p .args .image .now) (p .args .signal) (λ j. c .before .before .shared-slice-known .given j .fits) (p .pre .0 .0)
+
+too-short-requires : tie.Need-too-short-requires
+too-short-requires c κs = (c .before .before .before .pre .1 .1, kind-known c)
+
+returns : tie.Need-returns
+returns c =
+    let p = c .before .before .before .before .before in
+    let a = p .args in
+    (room-fewer (a .kind) (classNumber (a .class)) (length (loads (a .signal) (imageIn (a .image .now) .blocks) .entries)) (a .most) (length (a .index .now)) (length (a .bytes .now)) (p .pre .1 .0) (sym (c .before .too-short .ensures) ∙ not-true _ (c .if1 .taken)), refl, refl)
+
+load-blocks-requires : tie.Need-load-blocks-requires
+load-blocks-requires c κs =
+    let p = c .before .before .before .before .before .before .before in
+    (p .pre .0 .0, omega (arith, p .pre .0 .2), λ f. let o : _≡_ {A = ℕ} 0 1 = cc in absurd (omega arith))
+
+cast-too-short : tie.Need-cast-too-short
+cast-too-short c = search needs
+
+too-short-requires-2 : tie.Need-too-short-requires-2
+too-short-requires-2 c κs =
+    let l = c .before .before .before .before .before in
+    (l .load-blocks .ensures .0, kind-known (l .before .before .before .before .before))
+
+same-length : tie.Need-same-length
+same-length c = search needs
+
+same-length-2 : tie.Need-same-length-2
+same-length-2 c = search needs
+
+returns-2 : tie.Need-returns-2
+returns-2 c =
+    let l = c .before .before .before .before .before .before in
+    let a = l .before .before .before .before .before .before .before .before .args in
+    counted-short (a .image .now) (a .signal) (a .kind) (classNumber (a .class)) (a .index .now) (a .bytes .now) (l .load-blocks .result) _ _ _ (l .load-blocks .ensures .1) (c .too-short2 .ensures)
+
+pub lacks-room-spec : {M : Type 1} → statement M
+lacks-room-spec =
+    tie.close
+    (tie.spec
+    too-short-requires
+    returns
+    load-blocks-requires
+    cast-too-short
+    too-short-requires-2
+    same-length
+    same-length-2
+    returns-2)
