@@ -3,8 +3,8 @@ use entry::kept::KeptChange;
 use entry::kept::repeats_last;
 use signal::decode::ChangeValue;
 use signal::kind::SignalEncoding;
+use stream::known::known_change;
 use stream::read::ReadChange;
-use stream::read::read_change;
 use walk::block::first_block;
 use walk::block::next_block;
 use walk::block::time_at;
@@ -98,7 +98,7 @@ fn pass_block(
     let mut i: u32 = 0;
     let mut held = state;
     while p < to {
-        match read_change(image, p, kind) {
+        match known_change(image, p, kind) {
             ReadChange::Change(d, value, next) => {
                 i = i + d;
                 let time = time_at(image, at, i);

@@ -4,8 +4,8 @@ use entry::kept::repeats_last;
 use entry::put::put_entry;
 use signal::decode::ChangeValue;
 use signal::kind::SignalEncoding;
+use stream::known::known_change;
 use stream::read::ReadChange;
-use stream::read::read_change;
 use value::states::States;
 use walk::head::kind_at;
 use walk::part::part_in;
@@ -137,7 +137,7 @@ pub fn load_block(
     let mut i = table_base(number, times);
     let mut state = state;
     while p < to {
-        match read_change(image, p, kind) {
+        match known_change(image, p, kind) {
             ReadChange::Change(d, value, next) => {
                 i += d;
                 p = next;

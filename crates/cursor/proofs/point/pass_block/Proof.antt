@@ -2,6 +2,7 @@
 use Prim.Native.Nat.{_-_}
 use mathlib.Core.Path.{sym, _∙_}
 use native.Mathlib.Omega.{arith}
+use Rattle.stream.specs.Answer.{changeAt, IsChange}
 use borrow.Author.Needs.{needs}
 use Rattle.cursor.proofs.BlockLaws.{Passing, Turn, passing-begins, passing-turn, passing-bad, passing-ends}
 use Rattle.cursor.proofs.point.pass_block.Statement.{statement}
@@ -24,7 +25,16 @@ turn c =
     let a = p .args in
     let l = c .before .before .before .before .before .loop in
     passing-turn (a .kind) (a .image .now) (a .signal) (a .at) (c .before .before .before .before .before .before .part-in .result .to) (a .t) (a .state) (l .held) (l .p) (l .i) (λ j. c .before .before .before .before .before .before .before .shared-slice-known .given j .fits) (p .pre .0) (l .inv)
-    _ _ _ (c .before .before .before .before .loop-test .taken) (sym (c .before .before .before .read-change .ensures) ∙ c .before .d .given .1)
+    _ _ _ (c .before .before .before .before .loop-test .taken) (sym (c .before .before .before .known-change .ensures) ∙ c .before .d .given .1)
+
+-- a change stands where the loop is
+standing : (c : tie.In-loop Inv-loop μ-loop) → let a = c .before .before .before .before .args in IsChange (changeAt (a .kind) (a .image .now) (c .before .loop .p))
+standing c =
+    let p = c .before .before .before .before in
+    let a = p .args in
+    let l = c .before .loop in
+    passing-bad (a .kind) (a .image .now) (a .signal) (a .at) (c .before .before .part-in .result .to) (a .t) (a .state) (l .held) (l .p) (l .i) (λ j. c .before .before .before .shared-slice-known .given j .fits) (p .pre .0) (l .inv)
+    (c .loop-test .taken)
 
 part-in-requires : tie.Need-part-in-requires Inv-loop μ-loop
 part-in-requires c κs = search needs
@@ -37,8 +47,8 @@ loop-holds c =
     passing-begins (n .0) (a .kind) (a .image .now) (a .signal) (a .at) (c .part-in .result .from) (c .part-in .result .to) (c .part-in .result .top) (a .t) (a .state)
     (λ j. c .before .shared-slice-known .given j .fits) (p .pre .0) (n .1) (p .pre .2) (c .part-in .ensures (n .0) (n .1)) (p .pre .3) (p .pre .4)
 
-read-change-requires : tie.Need-read-change-requires Inv-loop μ-loop
-read-change-requires c κs = search needs
+known-change-requires : tie.Need-known-change-requires Inv-loop μ-loop
+known-change-requires c κs = standing c
 
 enum-known-d : tie.Need-enum-known-d Inv-loop μ-loop
 enum-known-d c = search needs
@@ -62,12 +72,7 @@ enum-told : tie.Need-enum-told Inv-loop μ-loop
 enum-told c = search needs
 
 returns : tie.Need-returns Inv-loop μ-loop
-returns c =
-    let p = c .before .before .before .before .before .before .before in
-    let a = p .args in
-    let l = c .before .before .before .before .loop in
-    absurd (passing-bad (a .kind) (a .image .now) (a .signal) (a .at) (c .before .before .before .before .before .part-in .result .to) (a .t) (a .state) (l .held) (l .p) (l .i) (λ j. c .before .before .before .before .before .before .shared-slice-known .given j .fits) (p .pre .0) (l .inv)
-    (c .before .before .before .loop-test .taken) (sym (c .before .before .read-change .ensures) ∙ c .enum-told .given .1))
+returns c = absurd (standing (c .before .before .before) (sym (c .before .before .known-change .ensures) ∙ c .enum-told .given .1))
 
 returns-2 : tie.Need-returns-2 Inv-loop μ-loop
 returns-2 c =
@@ -84,7 +89,7 @@ pass-block-spec =
     μ-loop
     part-in-requires
     loop-holds
-    read-change-requires
+    known-change-requires
     enum-known-d
     add-i
     time-at-requires

@@ -4,6 +4,7 @@ use mathlib.Core.Path.{_≡_, sym, _∙_}
 use native.Mathlib.Omega.{arith}
 use lib.ListN.{length}
 use Rattle.value.specs.Class.{classNumber}
+use Rattle.stream.specs.Answer.{changeAt, IsChange}
 use Rattle.loaded.specs.Opener.{blockAt}
 use Rattle.walk.specs.Walk.{imageIn}
 use Rattle.loader.specs.Blocks.{baseOf, topOf}
@@ -44,7 +45,17 @@ turned c =
     block-turn (r .before .before .kind-at .result) (a .image .now) (a .number) (a .at) (a .signal) (classNumber (a .class)) (a .write) (a .times) (r .before .part-in .result .from) (r .before .part-in .result .to)
     (a .state) (a .index .now) (a .bytes .now) (r .before .before .kind-at .ensures) (known r)
     (l .p) (l .i) (l .state) (l .index) (l .bytes) (d .0) (d .1 .0) (d .1 .1 .0) (λ j. r .before .before .before .before .before .shared-slice-known .given j .fits) (c .before .before .before .before .loop-test .taken) (l .inv)
-    (sym (c .before .before .before .read-change .ensures) ∙ c .before .d .given .1)
+    (sym (c .before .before .before .known-change .ensures) ∙ c .before .d .given .1)
+
+-- a change stands where the loop is
+standing : (c : tie.In-loop Inv-loop μ-loop) → let r = c .before .before in IsChange (changeAt (r .before .before .kind-at .result) (r .before .before .before .before .before .before .args .image .now) (c .before .loop .p))
+standing c =
+    let r = c .before .before in
+    let a = r .before .before .before .before .before .before .args in
+    let l = c .before .loop in
+    block-not-bad (r .before .before .kind-at .result) (a .image .now) (a .number) (a .at) (a .signal) (classNumber (a .class)) (a .write) (a .times) (r .before .part-in .result .from) (r .before .part-in .result .to)
+    (a .state) (a .index .now) (a .bytes .now) (r .before .before .kind-at .ensures) (known r)
+    (l .p) (l .i) (l .state) (l .index) (l .bytes) (λ j. r .before .before .before .before .before .shared-slice-known .given j .fits) (c .loop-test .taken) (l .inv)
 
 kind-at-requires : tie.Need-kind-at-requires Inv-loop μ-loop
 kind-at-requires c κs = search needs
@@ -63,8 +74,8 @@ loop-holds c =
     (a .state) (a .index .now) (a .bytes .now) (r .before .before .kind-at .ensures) (known r)
     (r .table-base .result) (r .before .before .before .before .before .before .pre .0 .2) (r .table-base .ensures)
 
-read-change-requires : tie.Need-read-change-requires Inv-loop μ-loop
-read-change-requires c κs = search needs
+known-change-requires : tie.Need-known-change-requires Inv-loop μ-loop
+known-change-requires c κs = standing c
 
 enum-known-d : tie.Need-enum-known-d Inv-loop μ-loop
 enum-known-d c = search needs
@@ -89,7 +100,7 @@ take-change-requires c κs =
     let k = known r in
     let d = q .before .d .given .0 in
     let few : l .state .count + 1 < 4294967296 = omega (arith, t .later, t .within, g .few, g .start, k .place, k .end, r .before .before .before .before .before .before .pre .1 .2) in (
-      (g .reads, (l .p, d .0, sym (q .before .before .before .read-change .ensures) ∙ q .before .d .given .1), rw (t .content) (omega (arith, t .class, r .before .before .before .before .before .before .pre .0 .3))),
+      (g .reads, (l .p, d .0, sym (q .before .before .before .known-change .ensures) ∙ q .before .d .given .1), rw (t .content) (omega (arith, t .class, r .before .before .before .before .before .before .pre .0 .3))),
       (
         few,
         change-room (r .before .before .kind-at .result) (a .image .now) _ _ (classNumber (a .class)) (a .write) _ _ _ _ _ (l .p) (l .i) (l .state) (l .index) (l .bytes) g (d .0) (d .1 .0) (d .1 .1 .0) t
@@ -126,13 +137,7 @@ same-length-2 : tie.Need-same-length-2 Inv-loop μ-loop
 same-length-2 c = c .before .before .before .before .loop .inv .bytes-size
 
 returns : tie.Need-returns Inv-loop μ-loop
-returns c =
-    let r = c .before .before .before .before .before in
-    let a = r .before .before .before .before .before .before .args in
-    let l = c .before .before .before .before .loop in
-    absurd (block-not-bad (r .before .before .kind-at .result) (a .image .now) (a .number) (a .at) (a .signal) (classNumber (a .class)) (a .write) (a .times) (r .before .part-in .result .from) (r .before .part-in .result .to)
-    (a .state) (a .index .now) (a .bytes .now) (r .before .before .kind-at .ensures) (known r)
-    (l .p) (l .i) (l .state) (l .index) (l .bytes) (λ j. r .before .before .before .before .before .shared-slice-known .given j .fits) (c .before .before .before .loop-test .taken) (l .inv) (sym (c .before .before .read-change .ensures) ∙ c .enum-told .given .1))
+returns c = absurd (standing (c .before .before .before) (sym (c .before .before .known-change .ensures) ∙ c .enum-told .given .1))
 
 same-length-3 : tie.Need-same-length-3 Inv-loop μ-loop
 same-length-3 c = c .before .loop .inv .index-size
@@ -160,7 +165,7 @@ load-block-spec =
     part-in-requires
     table-base-requires
     loop-holds
-    read-change-requires
+    known-change-requires
     enum-known-d
     add-i
     take-change-requires
