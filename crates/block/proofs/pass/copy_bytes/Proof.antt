@@ -1,5 +1,5 @@
--- The loop's invariant: what is left of the bytes, written from to + i on, gives what all of them give, written from `to` on. The measure
--- is what is left of n.
+-- One byte or two are written one by one (`part-more`). The loop's invariant: what is left of the bytes, written from to + i on, gives what
+-- all of them give, written from `to` on. The measure is what is left of n.
 -- Assumes nothing.
 use Prim.Native.Nat.{suc, _+_, _-_, _≤_}
 use mathlib.Core.Path.{_≡_, refl}
