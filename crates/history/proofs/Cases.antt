@@ -7,9 +7,11 @@ use mathlib.Core.List.{List, [], _∷_}
 use Rattle.lists.specs.Last.{lastOr}
 use Rattle.lists.specs.Same.{same}
 use Rattle.value.specs.Symbol.{symbolOf}
-use Rattle.value.specs.Class.{classOfAll}
+use Rattle.value.specs.Class.{classOfAll, allSymbols}
 use Rattle.vcd.specs.Vcd.{symbolsIn, vcdBit}
-use Rattle.signal.specs.Content.{vcd, symbols, bits, real, happened, decode}
+use Rattle.packed.specs.Packed.{numberOf, digits, unpacked}
+use Rattle.packed.specs.Raw.{rawSymbols}
+use Rattle.signal.specs.Content.{vcd, raw, symbols, bits, real, happened, decode}
 use Rattle.signal.specs.declared.kind.SignalEncoding.the-variants.{BitVector, Real}
 use Rattle.stream.specs.Entries.{entry}
 use Rattle.recording.specs.Calls.{Call, time, change, wayOf, taken, back, recorded, skipped}
@@ -39,3 +41,9 @@ pub zeros-differ : let h = tellAll (Real ∷ BitVector 0 ∷ []) noHistory (time
     (keptOf h 0 ≡ entry 0 (bits 0) ∷ entry 0 (bits 0x8000000000000000) ∷ []) × (keptOf h 1 ≡ entry 0 happened ∷ entry 0 happened ∷ [])
 unfolding lastOr decode wayOf tell tellAll same listOf keptAfter kept
 zeros-differ = (refl, refl)
+
+-- a raw value that repeats the change before it is not kept, and its claim counts for the class
+pub claim-counts : let h = tellAll (BitVector 1 ∷ []) noHistory (time 1 ∷ change 0 (vcd (49 ∷ [])) ∷ time 2 ∷ change 0 (raw 2 (0x01 ∷ [])) ∷ []) (false ∷ false ∷ false ∷ false ∷ []) .last in
+    (keptOf h 0 ≡ entry 0 (symbols (1 ∷ [])) ∷ []) × (classOf h 0 ≡ 2)
+unfolding symbolOf classOfAll symbolsIn lastOr vcdBit numberOf digits unpacked rawSymbols allSymbols decode wayOf tell tellAll same listOf keptAfter kept topOf
+claim-counts = (refl, refl)
