@@ -60,7 +60,7 @@ stream-fits k n i top l small f = entries-fit k n 0 i top l small (omega arith) 
 
 -- ---- a block
 
-top-small : (k : SignalEncoding) → topLimit k ≤ 2
+pub top-small : (k : SignalEncoding) → topLimit k ≤ 2
 top-small (BitVector zero) = omega arith
 top-small (BitVector (suc w)) = omega arith
 top-small Real = omega arith

@@ -7,5 +7,4 @@ pub mod Trip
 pub mod WalkBlock
 pub mod WalkLaws
 pub mod Growth
-pub mod PlaceLaws
 pub mod Cases

@@ -6,7 +6,6 @@ use mathlib.Core.List.{List, [], _∷_, _++_}
 use mathlib.Core.Option.{Option, some, none}
 use native.Mathlib.Omega.{arith}
 use lib.ListN.{length, getD, drop}
-use Rattle.lists.specs.Bytes.{Bytes}
 use Rattle.signal.specs.declared.kind.SignalEncoding.{SignalEncoding}
 use Rattle.stream.specs.Entries.{Entry}
 use Rattle.image.specs.Block.{Part, Block, part, block}
@@ -14,14 +13,14 @@ use Rattle.form.specs.Decide.{lt?, both}
 use Rattle.form.specs.Form.{Form, guard, pair, repeat, each, byte, uint, sized, chain, putChain, OkChain}
 use Rattle.form.proofs.FormLaws.{Laws, only-laws, guard-laws, header-laws, via-laws, pair-laws, repeat-laws, each-laws, byte-laws, uint-laws, repeat-length}
 use Rattle.form.proofs.WholeLaws.{WholeLaws, chain-laws, sized-laws, such-laws, none-some, some-is}
-use Rattle.form.proofs.Unique.{Within, get-same}
+use Rattle.form.proofs.Unique.{Within}
 use Rattle.codec.specs.Layout.{layout, layoutForm}
 use Rattle.codec.specs.ImageForm.{entryForm, stream, topAndStream, partForm, layoutOf, blockForm}
 use Rattle.codec.specs.Valid.{Rising, EachBelow, EntryFits, EntriesFit, OptionFits, PartsFit, Begins, firstIndex, Filled, BlockFits, entryFits?, rising?, begins?, filled?, blockFits?}
 use Rattle.codec.specs.Walk.{walkEntry, nextState, walkStream, TopFits, topFits?, walkPart, topped, walkLayout, walkTimes, walkBlock}
 use Rattle.codec.proofs.LayoutLaws.{layout-laws}
 use Rattle.codec.proofs.StreamLaws.{entry-laws, change-long}
-use Rattle.codec.proofs.ImageLaws.{parts-agree, block-laws}
+use Rattle.codec.proofs.ImageLaws.{parts-agree}
 
 -- ---- a stream
 
@@ -198,10 +197,3 @@ module _ (limit : ℕ) (ks : List SignalEncoding) (end : Option ℕ) (tops : Lis
       make : Tested .Ok b → PartsSame (length (b .times)) (firstIndex end) ks tops (layoutOf ks b .lens) (b .parts) → walkBlock limit ks end tops follow .Ok b
       make o s = unfold walkBlock blockForm in
           ((o .0 .0, o .1 .filled), (((o .0 .1 .0 .0, (o .1 .begins, o .1 .rising)), s .walk), refl))
-
-  -- test by test or at once, the same is read
-  pub walk-block : (s : List ℕ) → Bytes s → walkBlock limit ks end tops follow .get s ≡ Tested .get s
-  walk-block s y =
-      get-same (walkBlock limit ks end tops follow) Tested walk-block-laws
-      (guard-laws (blockForm ks) (λ b. BlockFits limit ks end tops b follow) (λ b. blockFits? limit ks end tops b follow) (block-laws ks))
-      walk-tested tested-walk s y

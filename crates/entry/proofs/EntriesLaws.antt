@@ -1,8 +1,8 @@
--- The entries of a signal one after the other: how long they are, one more at the end, and where each stands.
+-- The entries of a signal one after the other: how long they are, and where each stands.
 -- Assumes nothing.
 use Prim.Native.Nat.{ℕ, zero, suc, _+_, _*_, _≤_, _<_}
 use mathlib.Core.Path.{_≡_, sym, ap, ap₂, _∙_}
-use mathlib.Core.List.{List, [], _∷_, _++_, append-assoc, append-nil}
+use mathlib.Core.List.{List, [], _∷_, _++_}
 use native.Mathlib.Nat.{zero-mul}
 use native.Mathlib.Omega.{arith}
 use lib.ListN.{length, take, drop, getD, length-append}
@@ -19,13 +19,6 @@ use Rattle.entry.proofs.LengthLaws.{entry-length}
 abbrev pub EachFits : SignalEncoding → (c : ℕ) → List Entry → Type 0
 EachFits k c [] = Unit {0}
 EachFits k c (e ∷ es) = (ContentFits k (e .content) × (classOfAll (symbolsOf (e .content)) ≤ c)) × EachFits k c es
-
-pub entries-last : (k : SignalEncoding) (c : ℕ) (es : List Entry) (e : Entry) → entriesBytes k c (es ++ e ∷ []) ≡ entriesBytes k c es ++ entryBytes k c (e .content)
-unfolding entriesBytes
-entries-last k c [] e = append-nil (entryBytes k c (e .content))
-entries-last k c (d ∷ es) e =
-    ap (λ (l : List ℕ). entryBytes k c (d .content) ++ l) (entries-last k c es e)
-    ∙ sym (append-assoc (entryBytes k c (d .content)) (entriesBytes k c es) (entryBytes k c (e .content)))
 
 pub entries-length : (k : SignalEncoding) (c : ℕ) (es : List Entry) → EachFits k c es → c ≤ 2 → length (entriesBytes k c es) ≡ length es * entryLength k c
 unfolding entriesBytes

@@ -26,9 +26,9 @@ use Rattle.stream.proofs.WriteLaws.{two-writes}
 use Rattle.stream.proofs.StreamTrip.{first-symbol}
 use Rattle.loaded.specs.EntryBytes.{carrying, filledTo, wideEntry, entryBytes}
 use Rattle.loaded.proofs.EntryLaws.{free-bits, first-small}
-use Rattle.entry.specs.Length.{classByte, wideLength, entryLength}
+use Rattle.entry.specs.Length.{classByte, wideLength}
 use Rattle.entry.specs.Read.{bitIn, statesIn, bitsIn, packedBefore, wideRead, contentRead, Reads, PackedThere}
-use Rattle.entry.proofs.LengthLaws.{packed-fewer, length-filled, wide-is, length-wide, entry-length}
+use Rattle.entry.proofs.LengthLaws.{packed-fewer, length-filled, wide-is, length-wide}
 use Rattle.entry.proofs.PartLaws.{first-at, carried-at}
 use Rattle.entry.proofs.ReadThere.{reads-there}
 
@@ -36,9 +36,6 @@ use Rattle.entry.proofs.ReadThere.{reads-there}
 
 pub wide-some : (w c : ℕ) → 0 < w → 0 < wideLength w c
 wide-some w c h = omega (arith, place-in w c 0 h)
-
-pub wide-more : (w c : ℕ) → packedLength w c ≤ wideLength w c
-wide-more w c = omega arith
 
 -- where no byte is filled in, no class byte precedes
 no-class-byte : (u : Bool) (a b : ℕ) → b ≤ a → (pick u 1 0 + a) - b ≡ 0 → (u ≡ false) × (a ≡ b)
@@ -190,8 +187,3 @@ wide-put k w c t s v n y r q h e z one f =
       bytes = bytes;
       size = ap length bytes ∙ length-wide w c (wideRead w t n s) (length-unpacked w t (packedBefore w t n s)) (omega (arith, there .class)) h;
     }
-
--- the room that an entry takes
-pub read-length : (k : SignalEncoding) (c : ℕ) (s : List ℕ) (v : ChangeValue) (n : ℕ) → Bytes s → Reads k s v n → classOfAll (symbolsOf (contentRead k s v n)) ≤ c → c ≤ 2
-    → length (entryBytes k c (contentRead k s v n)) ≡ entryLength k c
-read-length k c s v n y r q h = entry-length k c (contentRead k s v n) (reads-there k s v n y r .fits) q h

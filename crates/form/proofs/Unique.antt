@@ -2,35 +2,16 @@
 -- Assumes nothing.
 use Prim.Native.Nat.{ℕ}
 use mathlib.Core.Path.{_≡_, refl, sym, ap, _∙_}
-use mathlib.Core.List.{List, _++_}
+use mathlib.Core.List.{List}
 use mathlib.Core.Option.{Option, some, none}
 use Rattle.lists.specs.Bytes.{Bytes}
-use Rattle.lists.specs.Got.{Got, bad, got}
 use Rattle.form.specs.Form.{Form, Whole}
-use Rattle.form.proofs.FormLaws.{Laws}
 use Rattle.form.proofs.WholeLaws.{WholeLaws}
 
 -- a value of c is one of d, with the same bytes
 pub record Within {A : Type 0} (c d : Form A) (x : A) : Type 0 where
   pub ok : d .Ok x
   pub same : c .put x ≡ d .put x
-
--- what c reads, d reads
-got-too : {A : Type 0} (c d : Form A) → Laws c → Laws d → ((x : A) → c .Ok x → Within c d x)
-    → (s : List ℕ) (x : A) (r : List ℕ) → Bytes s → c .get s ≡ got x r → d .get s ≡ got x r
-got-too c d C D within s x r y e =
-    let w = C .back s x r y e in
-    let t = within x (w .ok) in
-    ap (d .get) (w .form ∙ ap (λ (l : List ℕ). l ++ r) (t .same)) ∙ D .there x r (t .ok)
-
-got-same : {A : Type 0} (g h : Got A) → ((x : A) (r : List ℕ) → g ≡ got x r → h ≡ got x r) → ((x : A) (r : List ℕ) → h ≡ got x r → g ≡ got x r) → g ≡ h
-got-same bad bad f k = refl
-got-same bad (got x r) f k = k x r refl
-got-same (got x r) h f k = sym (f x r refl)
-
-pub get-same : {A : Type 0} (c d : Form A) → Laws c → Laws d → ((x : A) → c .Ok x → Within c d x) → ((x : A) → d .Ok x → Within d c x)
-    → (s : List ℕ) → Bytes s → c .get s ≡ d .get s
-get-same c d C D there back s y = got-same (c .get s) (d .get s) (λ x r e. got-too c d C D there s x r y e) (λ x r e. got-too d c D C back s x r y e)
 
 pub record WithinWhole {A : Type 0} (c d : Whole A) (x : A) : Type 0 where
   pub fit : d .Fit x

@@ -40,10 +40,6 @@ known-next : (c : ℕ) (s : List ℕ) (at : ℕ) → knownAt (suc c) s at ≡ kn
 unfolding knownAt
 known-next c s at = refl
 
-kinds-next : (c : ℕ) (s : List ℕ) (at : ℕ) → kindsAt (suc c) s at ≡ kindFrom (numberIn s at) ∷ kindsAt c s (at + 4)
-unfolding kindsAt
-kinds-next c s at = refl
-
 module _ (c : ℕ) (s : List ℕ) (at : ℕ) where
   abbrev Kinds : Type 0
   Kinds = Got (List SignalEncoding)

@@ -110,9 +110,6 @@ module _ (k : SignalEncoding) (before n i : ℕ) where
 
 -- the largest top class by the kind
 module _ (k : SignalEncoding) where
-  pub limit-event : (w : ℕ) → k ≡ BitVector w → w ≡ 0 → 0 ≡ topLimit k
-  limit-event w e z = rw (e, z) refl
-
   pub limit-vector : (w : ℕ) → k ≡ BitVector w → (w ≡ 0 → ⊥) → 2 ≡ topLimit k
   limit-vector zero e z = absurd (z refl)
   limit-vector (suc w) e z = rw e refl

@@ -167,9 +167,6 @@ store-first d l n s at =
 
 -- ---- one top class
 
-pub top-none : (d : List ℕ) (before o : ℕ) → o ≡ 0 → before ≡ topRead d before o
-top-none d before o e = rw e refl
-
 pub top-past : (s : List ℕ) (base before o : ℕ) → (o ≡ 0 → ⊥) → length s - base < o → 0 ≡ topRead (drop base s) before o
 top-past s base before zero z h = absurd (z refl)
 top-past s base before (suc a) z h = sym (List·getD-eq-default (drop base s) 0 (omega (arith, length-drop base s)))

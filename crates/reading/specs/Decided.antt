@@ -1,4 +1,4 @@
--- A decision as a truth value, what was got as one, and numbers in a row.
+-- A decision as a truth value, and numbers in a row.
 -- Assumes nothing.
 use Prim.Native.Nat.{ℕ, zero, suc, _+_}
 use mathlib.Core.Bool.{Bool, true, false}
@@ -6,16 +6,11 @@ use mathlib.Core.List.{List, [], _∷_}
 use mathlib.Core.Option.{Option, some, none}
 use lib.ListN.{take, drop}
 use Rattle.lists.specs.Choice.{pick}
-use Rattle.lists.specs.Got.{Got, bad, got}
 use Rattle.numbers.specs.LittleEndian.{unle}
 
 abbrev pub isYes : {P : Type 0} → Dec P → Bool
 isYes (yes p) = true
 isYes (no n) = false
-
-abbrev pub isGot : {A : Type 0} → Got A → Bool
-isGot bad = false
-isGot (got x r) = true
 
 -- n numbers of w bytes, at a place
 unfoldable pub uints : (w n : ℕ) → List ℕ → (at : ℕ) → List ℕ

@@ -169,8 +169,3 @@ pub time-read : (n m at i s : ℕ) (b : List ℕ) → Bytes b → Opened b → B
 time-read n m at i s b y o h k g e =
     let same : length (blockAt (imageIn b) n .times) ≡ length (blockAt (imageIn b) m .times) = sym (here n at b y o h .count .value) ∙ here m at b y o g .count .value in
     rw e (time-here m at i b y o g (omega arith))
-
--- ---- after the last block the image ends
-
-pub end-here : (b : List ℕ) → Bytes b → Opened b → blockPlace (imageIn b) (length (imageIn b .blocks)) ≡ length b
-end-here b y o = end-place b (imageIn b) (means b y o)

@@ -22,7 +22,6 @@ use Rattle.form.proofs.WholeLaws.{none-some}
 use Rattle.codec.specs.Valid.{BlocksFit}
 use Rattle.codec.specs.Parse.{parse}
 use Rattle.codec.proofs.WrittenOut.{count-streamed}
-use Rattle.codec.proofs.PlaceLaws.{offset-none}
 use Rattle.codec.proofs.Growth.{parts-count}
 use Rattle.loaded.specs.Opener.{kindAt, blockAt, partAt, streamIn, streamFrom, streamOf}
 use Rattle.loaded.specs.Loading.{topIn}
@@ -67,6 +66,15 @@ offset-most zero a (some q ∷ ps) = omega (arith, length-append (partBytes (som
 offset-most (suc g) a (none ∷ ps) = offset-most g a ps
 offset-most (suc g) a (some q ∷ ps) =
     omega (arith, length-append (partBytes (some q)) (dataOf ps), offset-most g (a + length (partBytes (some q))) ps)
+
+-- a signal without a part has the offset 0
+offset-none : (g a : ℕ) (ps : List (Option (Part (List ℕ)))) → getD ps g none ≡ none → getD (offsetsFrom a ps) g 0 ≡ 0
+unfolding offsetsFrom
+offset-none g a [] e = refl
+offset-none zero a (none ∷ ps) e = refl
+offset-none zero a (some q ∷ ps) e = none-some (sym e)
+offset-none (suc g) a (none ∷ ps) e = offset-none g a ps e
+offset-none (suc g) a (some q ∷ ps) e = offset-none g (a + length (partBytes (some q))) ps e
 
 offset-some : (g a : ℕ) (ps : List (Option (Part (List ℕ)))) (p : Part (List ℕ)) → getD ps g none ≡ some p
     → getD (offsetsFrom a ps) g 0 ≡ suc (a + length (dataOf (take g ps)))

@@ -1,4 +1,3 @@
-use Prim.Native.Nat.{_-_}
 use native.Mathlib.Omega.{arith}
 use Rattle.blocks.proofs.BlockLaws.{front-says, kinds-wrong, kinds-body}
 use Rattle.blocks.proofs.TestLaws.{filled-small}

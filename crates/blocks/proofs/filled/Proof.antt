@@ -1,4 +1,3 @@
-use Prim.Native.Nat.{_-_}
 use Rattle.blocks.proofs.TestLaws.{filled-last, filled-more}
 use Rattle.blocks.proofs.filled.Statement.{statement}
 use Rattle.blocks.proofs.filled.Tie as tie

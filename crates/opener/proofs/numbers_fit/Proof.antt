@@ -1,4 +1,3 @@
-use Prim.Native.Nat.{_-_}
 use Rattle.opener.proofs.OpenLaws.{limit-low, limit-high, signals-high, total-high, head-long, total-is}
 use borrow.Author.Needs.{needs}
 use Rattle.opener.proofs.numbers_fit.Statement.{statement}

@@ -1,4 +1,3 @@
-use Prim.Native.Nat.{_-_}
 use Rattle.parts.proofs.TopsLaws.{top-past, top-there}
 use borrow.Author.Needs.{needs}
 use Rattle.parts.proofs.top_after.Statement.{statement}

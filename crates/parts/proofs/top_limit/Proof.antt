@@ -1,4 +1,3 @@
-use Prim.Native.Nat.{_-_}
 use Rattle.parts.proofs.PartLaws.{limit-vector}
 use borrow.Author.Needs.{needs}
 use Rattle.parts.proofs.top_limit.Statement.{statement}

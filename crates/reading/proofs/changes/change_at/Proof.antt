@@ -1,4 +1,4 @@
-use Prim.Native.Nat.{_-_, _≤_}
+use Prim.Native.Nat.{_≤_}
 use native.Mathlib.Omega.{arith}
 use Rattle.reading.proofs.EntryLaws.{entry-bad, delta-small, entry-early, entry-late, entry-class, entry-fits}
 use borrow.Author.Needs.{needs}

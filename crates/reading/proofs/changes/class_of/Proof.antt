@@ -1,5 +1,4 @@
 use Rattle.value.specs.Class.{classNumber}
-use Prim.Native.Nat.{_-_}
 use mathlib.Core.Path.{ap, _∙_}
 use Rattle.value.proofs.ClassLaws.{number-states, class-small}
 use borrow.Author.Needs.{needs}

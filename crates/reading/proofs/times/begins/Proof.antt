@@ -1,5 +1,4 @@
 use borrow.Author.Tests.{not-true, not-false}
-use Prim.Native.Nat.{_-_}
 use Rattle.reading.proofs.TimesLaws.{begins-first, begins-short, begins-with}
 use borrow.Author.Needs.{needs}
 use Rattle.reading.proofs.times.begins.Statement.{statement}
