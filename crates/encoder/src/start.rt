@@ -26,8 +26,8 @@ pub fn start<'r, 't, 'i>(
 {
     let unknown = has_unknown_kind(&*records);
     let n = records.len();
-    let held = times.len();
-    let begun = begin(state, limit, signals, unknown, n, held, &mut *image);
+    let t = times.len();
+    let begun = begin(state, limit, signals, unknown, n, t, &mut *image);
     start_records(records, begun.turns, image);
     begun.outcome
 }

@@ -45,10 +45,10 @@ pub record Alike (a b : Answer) (s s′ : Encoder) (ns : List ℕ) (rs : List Si
   pub work : w ≡ w′
   pub image : i ≡ i′
 
-pub doors-alike : (x : After) (a b : Answer) (s s′ : Encoder) (ns : List ℕ) (rs : List SignalRecord) (t t′ w w′ i i′ : List ℕ)
+pub same-answers : (x : After) (a b : Answer) (s s′ : Encoder) (ns : List ℕ) (rs : List SignalRecord) (t t′ w w′ i i′ : List ℕ)
     → after (replyOf a) (memory s (recordsOf ns) t w i) ≡ x → after (replyOf b) (memory s′ rs t′ w′ i′) ≡ x
     → Alike a b s s′ ns rs t t′ w w′ i i′
-doors-alike x a b s s′ ns rs t t′ w w′ i i′ f e =
+same-answers x a b s s′ ns rs t t′ w w′ i i′ f e =
     let both = f ∙ sym e in
     record {
       answers = sym (answer-back a) ∙ ap (λ (y : After). answerOf (y .reply)) both ∙ answer-back b;

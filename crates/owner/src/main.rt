@@ -87,7 +87,7 @@ fn raw_and_real() {
 }
 
 // Refusals 1 to 6, with an absent signal and a width of 4. The finish shows that they left nothing behind.
-fn senders() {
+fn refused_calls() {
     let mut times = [0u64; 4];
     let mut work = [0u8; 128];
     let mut image = [0u8; 128];
@@ -110,7 +110,7 @@ fn senders() {
 }
 
 // Refusals 7, 8 and 10: too little is lent, of the work, the image and the times. Then enough is.
-fn lenders() {
+fn short_buffers() {
     let mut times = [0u64; 4];
     let mut work = [0u8; 128];
     let mut image = [0u8; 128];
@@ -133,6 +133,6 @@ fn main() {
     cuts();
     skip();
     raw_and_real();
-    senders();
-    lenders();
+    refused_calls();
+    short_buffers();
 }

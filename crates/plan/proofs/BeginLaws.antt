@@ -106,9 +106,9 @@ module _ (l g : ℕ) (m : Memory) where
   done : first asked ≡ 0 → startOf l g m ≡ begunIn l g m
   done z = start-fits l g m (startable l g (length (m .records)) (unknownKind (m .records)) (length (m .times)) (length (m .image)) z)
 
-  turned-back : (first asked ≡ 0 → ⊥) → startOf l g m ≡ refused m (first asked)
+  refused-still : (first asked ≡ 0 → ⊥) → startOf l g m ≡ refused m (first asked)
   unfolding startOf
-  turned-back z = guarded-first asked (refused m) (begunIn l g m) z
+  refused-still z = guarded-first asked (refused m) (begunIn l g m) z
 
   pub start-carried : startCarried l g m ≡ startOf l g m
   start-carried = by (ℕ-discrete (first asked) 0)
@@ -116,7 +116,7 @@ module _ (l g : ℕ) (m : Memory) where
       by : Dec (first asked ≡ 0) → startCarried l g m ≡ startOf l g m
       by (no z) =
           let b = begin-refused (m .state) l g (unknownKind (m .records)) (length (m .records)) (length (m .times)) (m .image) z in
-          rw (b .0, b .1, first-none fresh (m .records), kinds-none (m .records) (m .image)) (sym (turned-back z))
+          rw (b .0, b .1, first-none fresh (m .records), kinds-none (m .records) (m .image)) (sym (refused-still z))
       by (yes z) =
           let b = begin-taken (m .state) l g (unknownKind (m .records)) (length (m .records)) (length (m .times)) (m .image) z in
           let f = startable l g (length (m .records)) (unknownKind (m .records)) (length (m .times)) (length (m .image)) z in

@@ -112,9 +112,9 @@ module _ (s : Encoder) (rs : List SignalRecord) (t w i : List ℕ) where
   tests = stateTests s (length rs) (length t) (length w) (length i)
 
   module _ (x : ℕ) where
-    turned-back : (first tests ≡ 0 → ⊥) → step.timeOf m x ≡ refused m (first tests)
+    refused-still : (first tests ≡ 0 → ⊥) → step.timeOf m x ≡ refused m (first tests)
     unfolding step.timeOf
-    turned-back z = guarded-first tests (refused m) (step.timeBy m x (wayOf (take (s .held) t) x)) z
+    refused-still z = guarded-first tests (refused m) (step.timeBy m x (wayOf (take (s .held) t) x)) z
 
     gone-on : first tests ≡ 0 → step.timeOf m x ≡ step.timeBy m x (wayOf (take (s .held) t) x)
     unfolding step.timeOf
@@ -159,7 +159,7 @@ module _ (s : Encoder) (rs : List SignalRecord) (t w i : List ℕ) where
     time-does = by (ℕ-discrete (first tests) 0)
       where
         by : Dec (first tests ≡ 0) → Does (planTime s (length rs) t w (length i) x) (step.timeOf m x)
-        by (no z) = does-by (time-refused s (length rs) t w (length i) x z) (turned-back z) (refused-does (first tests))
+        by (no z) = does-by (time-refused s (length rs) t w (length i) x z) (refused-still z) (refused-does (first tests))
         by (yes z) =
             does-by (time-passed s (length rs) t w (length i) x z) (gone-on z) (way-does (sound _ _ _ _ _ z) (wayOf (take (s .held) t) x))
 

@@ -29,6 +29,7 @@ enum Way {
     Below,
 }
 
+// Where a time stands against the last of the held ones. Without one every time is above.
 fn way_of(times: &[u64], held: u32, time: u64) -> Way
     requires { ⌜ held ≤ length (now times) ⌝ }
     ensures { λ r. ⌜ wayIn r ≡ wayOf (take held (now (times .entry))) time ⌝ }
