@@ -1,9 +1,9 @@
 // What another hand does to the state and to lent memory between two calls.
-use crate::bench::Bench;
-use crate::bench::lent_by;
-use crate::bench::with_state;
 use crate::record::kind_number;
 use crate::record::stored;
+use crate::run::Run;
+use crate::run::lent_by;
+use crate::run::with_state;
 use recording::Encoder;
 use text::number::hex_bytes;
 use text::number::number;
@@ -44,10 +44,10 @@ fn with_field(state: Encoder, field: &[u8], n: u64) -> Encoder {
 }
 
 // `set FIELD N`; false is 0.
-fn set_field(bench: Bench, line: &[u8]) -> Bench {
-    let state = bench.state;
+fn set_field(run: Run, line: &[u8]) -> Run {
+    let state = run.state;
     let altered = with_field(state, word(line, 1), number(word(line, 2)));
-    with_state(bench, altered, bench.records)
+    with_state(run, altered, run.records)
 }
 
 // `record SIGNAL KIND INDEX TOP`.
@@ -78,27 +78,27 @@ fn poke(work: &mut [u8], image: &mut [u8], line: &[u8]) {
     put_hex(image, place, word(line, 3))
 }
 
-// The bench after a line that is no call.
+// The run after a line that is no call.
 pub fn altered(
-    bench: Bench,
+    run: Run,
     line: &[u8],
     records: &mut [u64],
     work: &mut [u8],
     image: &mut [u8],
-) -> Bench {
+) -> Run {
     let name = word(line, 0);
     if spells(name, b"lend") {
-        return lent_by(bench, line);
+        return lent_by(run, line);
     }
     if spells(name, b"set") {
-        return set_field(bench, line);
+        return set_field(run, line);
     }
     if spells(name, b"record") {
         put_record(records, line);
-        return bench;
+        return run;
     }
     if spells(name, b"poke") {
         poke(work, image, line);
     }
-    bench
+    run
 }

@@ -2,20 +2,20 @@
 // as oracle/README.md and oracle/recorder.py say. After a refusal the state and all that was lent are held against their checksum.
 mod alter;
 mod answer;
-mod bench;
 mod call;
 mod checksum;
 mod make;
 mod record;
 mod recorder;
+mod run;
 
 use alter::altered;
-use bench::Bench;
-use bench::fresh_bench;
 use call::is_call;
 use libc::STDIN_FILENO;
 use make::make_call;
 use make::make_start;
+use run::Run;
+use run::fresh_run;
 use text::between;
 use text::byte_at;
 use text::past;
@@ -24,23 +24,23 @@ use text::word;
 
 // A line is a call, or says how memory is lent or what another hand does to it; or nothing, if it is empty or begins with #.
 fn take_line(
-    bench: Bench,
+    run: Run,
     line: &[u8],
     records: &mut [u64],
     times: &mut [u64],
     work: &mut [u8],
     image: &mut [u8],
-) -> Bench {
+) -> Run {
     if byte_at(line, 0) <= b'#' {
-        return bench;
+        return run;
     }
     if spells(word(line, 0), b"start") {
-        return make_start(bench, line, records, times, work, image);
+        return make_start(run, line, records, times, work, image);
     }
     if is_call(word(line, 0)) {
-        return make_call(bench, line, records, times, work, image);
+        return make_call(run, line, records, times, work, image);
     }
-    altered(bench, line, records, work, image)
+    altered(run, line, records, work, image)
 }
 
 // Takes each line. The text ends in a line feed.
@@ -51,13 +51,13 @@ fn take_lines(
     work: &mut [u8],
     image: &mut [u8],
 ) {
-    let mut bench = fresh_bench();
+    let mut run = fresh_run();
     let mut at = 0;
     while at < sheet.len() {
         let end = past(sheet, at, b'\n');
         let line = between(sheet, at, end);
         at = end;
-        bench = take_line(bench, line, records, times, work, image);
+        run = take_line(run, line, records, times, work, image);
     }
 }
 

@@ -1,7 +1,5 @@
 // Calls made on what is lent, and answered.
 use crate::answer::print_answer;
-use crate::bench::Bench;
-use crate::bench::with_state;
 use crate::call::Call;
 use crate::call::read_call;
 use crate::call::read_start;
@@ -9,6 +7,8 @@ use crate::call::read_value;
 use crate::checksum::checksum;
 use crate::record::put_records;
 use crate::recorder::perform;
+use crate::run::Run;
+use crate::run::with_state;
 use plan::Outcome;
 use recording::Answer;
 use recording::Encoder;
@@ -47,15 +47,15 @@ fn answered(
 fn lend(
     call: Call,
     value: &[u8],
-    bench: Bench,
+    run: Run,
     records: &mut [u64],
     times: &mut [u64],
     work: &mut [u8],
     image: &mut [u8],
 ) -> Outcome {
-    let state = bench.state;
-    let lent = bench.lent;
-    let r = least(bench.records, records.len());
+    let state = run.state;
+    let lent = run.lent;
+    let r = least(run.records, records.len());
     let t = least(lent.times, times.len());
     let w = least(lent.work, work.len());
     let i = least(lent.image, image.len());
@@ -86,21 +86,21 @@ fn copy(from: &[u64], to: &mut [u64], n: usize) {
 }
 
 // An accepted start keeps the records that it was made on.
-fn keep(bench: Bench, outcome: Outcome, asked: &[u64], n: usize, records: &mut [u64]) -> Bench {
+fn keep(run: Run, outcome: Outcome, asked: &[u64], n: usize, records: &mut [u64]) -> Run {
     let left = outcome.state;
     let answer = outcome.answer;
     match answer {
         Answer::Started => {
             copy(asked, records, n);
-            with_state(bench, left, n)
+            with_state(run, left, n)
         }
-        _ => with_state(bench, left, bench.records),
+        _ => with_state(run, left, run.records),
     }
 }
 
 // Makes a start on n records in memory of their own.
 fn try_start(
-    bench: Bench,
+    run: Run,
     call: Call,
     asked: &mut [u64],
     n: usize,
@@ -108,32 +108,32 @@ fn try_start(
     times: &mut [u64],
     work: &mut [u8],
     image: &mut [u8],
-) -> Bench {
-    let state = bench.state;
+) -> Run {
+    let state = run.state;
     let outcome = lend(
         call,
         b"",
-        with_state(bench, state, n),
+        with_state(run, state, n),
         asked,
         times,
         work,
         image,
     );
-    keep(bench, outcome, &*asked, n, records)
+    keep(run, outcome, &*asked, n, records)
 }
 
 pub fn make_start(
-    bench: Bench,
+    run: Run,
     line: &[u8],
     records: &mut [u64],
     times: &mut [u64],
     work: &mut [u8],
     image: &mut [u8],
-) -> Bench {
+) -> Run {
     let mut asked = [0u64; 65537];
     let n = put_records(&mut asked, line);
     try_start(
-        bench,
+        run,
         read_start(line),
         &mut asked,
         n,
@@ -145,25 +145,25 @@ pub fn make_start(
 }
 
 pub fn make_call(
-    bench: Bench,
+    run: Run,
     line: &[u8],
     records: &mut [u64],
     times: &mut [u64],
     work: &mut [u8],
     image: &mut [u8],
-) -> Bench {
+) -> Run {
     let mut space = [0u8; 16384];
     let n = read_value(&mut space, line);
     let value = before(&space, n);
     let outcome = lend(
         read_call(line, value),
         value,
-        bench,
+        run,
         records,
         times,
         work,
         image,
     );
     let left = outcome.state;
-    with_state(bench, left, bench.records)
+    with_state(run, left, run.records)
 }

@@ -3,8 +3,8 @@
 //
 // What a line says is read by the crate line; the calls are the crate flat's.
 mod answer;
-mod bench;
 mod recorder;
+mod run;
 mod sheet;
 
 use answer::print_image;

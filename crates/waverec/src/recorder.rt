@@ -1,7 +1,7 @@
 // The recorder's calls, made on what is lent.
 use crate::answer::print_answer;
-use crate::bench::Bench;
-use crate::bench::with_outcome;
+use crate::run::Run;
+use crate::run::with_outcome;
 use flat::changes::raw_value_change;
 use flat::changes::real_change;
 use flat::changes::vcd_value_change;
@@ -87,17 +87,17 @@ fn perform(
 
 // Makes the call of a line on the lent part of each array, and answers it.
 pub fn make_call(
-    bench: Bench,
+    run: Run,
     command: Command,
     line: &[u8],
     records: &mut [u64],
     times: &mut [u64],
     work: &mut [u8],
     image: &mut [u8],
-) -> Bench {
-    let state = bench.state;
-    let lent = bench.lent;
-    let r = least(bench.records, records.len());
+) -> Run {
+    let state = run.state;
+    let lent = run.lent;
+    let r = least(run.records, records.len());
     let t = least(lent.times, times.len());
     let w = least(lent.work, work.len());
     let i = least(lent.image, image.len());
@@ -112,8 +112,8 @@ pub fn make_call(
     );
     let answer = outcome.answer;
     let left = outcome.state;
-    if !bench.quiet {
+    if !run.quiet {
         print_answer(answer, left.skipped);
     }
-    with_outcome(bench, outcome)
+    with_outcome(run, outcome)
 }

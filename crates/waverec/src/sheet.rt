@@ -1,10 +1,10 @@
 // A sheet, line by line.
 use crate::answer::print_not_understood;
-use crate::bench::Bench;
-use crate::bench::fresh_bench;
-use crate::bench::with_lent;
-use crate::bench::with_records;
 use crate::recorder::make_call;
+use crate::run::Run;
+use crate::run::fresh_run;
+use crate::run::with_lent;
+use crate::run::with_records;
 use line::Command;
 use line::kinds::put_kinds;
 use line::read_line;
@@ -13,29 +13,29 @@ use text::print;
 ghost use Prim.Native.Nat.{_≤_};
 ghost use lib.ListN.{length};
 
-fn say(bench: Bench, text: &[u8]) {
-    if !bench.quiet {
+fn say(run: Run, text: &[u8]) {
+    if !run.quiet {
         print(text);
     }
 }
 
 // A start, which is handed on until one is accepted.
 fn take_start(
-    bench: Bench,
+    run: Run,
     command: Command,
     line: &[u8],
     records: &mut [u64],
     times: &mut [u64],
     work: &mut [u8],
     image: &mut [u8],
-) -> Bench {
-    if bench.started {
-        say(bench, b"already started\n");
-        return bench;
+) -> Run {
+    if run.started {
+        say(run, b"already started\n");
+        return run;
     }
     let n = put_kinds(records, line);
     make_call(
-        with_records(bench, n),
+        with_records(run, n),
         command,
         line,
         records,
@@ -47,38 +47,38 @@ fn take_start(
 
 // Any other call, which is handed on once a start was accepted.
 fn take_call(
-    bench: Bench,
+    run: Run,
     command: Command,
     line: &[u8],
     records: &mut [u64],
     times: &mut [u64],
     work: &mut [u8],
     image: &mut [u8],
-) -> Bench {
-    if bench.started {
-        return make_call(bench, command, line, records, times, work, image);
+) -> Run {
+    if run.started {
+        return make_call(run, command, line, records, times, work, image);
     }
-    say(bench, b"not started\n");
-    bench
+    say(run, b"not started\n");
+    run
 }
 
-// The bench after a line that is understood. Its call is answered.
+// The run after a line that is understood. Its call is answered.
 fn take_line(
-    bench: Bench,
+    run: Run,
     command: Command,
     line: &[u8],
     records: &mut [u64],
     times: &mut [u64],
     work: &mut [u8],
     image: &mut [u8],
-) -> Bench {
+) -> Run {
     match command {
-        Command::Nothing => bench,
-        Command::Lend(t, w, i) => with_lent(bench, t, w, i),
+        Command::Nothing => run,
+        Command::Lend(t, w, i) => with_lent(run, t, w, i),
         Command::Start(signals, limit) => {
-            take_start(bench, command, line, records, times, work, image)
+            take_start(run, command, line, records, times, work, image)
         }
-        _ => take_call(bench, command, line, records, times, work, image),
+        _ => take_call(run, command, line, records, times, work, image),
     }
 }
 
@@ -122,7 +122,7 @@ pub fn take_lines(
     work: &mut [u8],
     image: &mut [u8],
 ) -> usize {
-    let mut bench = fresh_bench(quiet);
+    let mut run = fresh_run(quiet);
     let mut at = 0;
     let mut number: u64 = 0;
     while at < sheet.len() {
@@ -134,7 +134,7 @@ pub fn take_lines(
         if !is_understood(command) {
             return stop(quiet, number);
         }
-        bench = take_line(bench, command, line, records, times, work, image);
+        run = take_line(run, command, line, records, times, work, image);
     }
-    bench.total
+    run.total
 }

@@ -9,14 +9,14 @@ use Rattle.sheet.proofs.take_lines.Statement.{statement}
 use Rattle.sheet.proofs.take_lines.Tie as tie
 
 abbrev Inv-loop : tie.InvT-loop
-Inv-loop sheet records₀ times₀ work₀ image₀ bench₀ at₀ records times work image bench at =
+Inv-loop sheet records₀ times₀ work₀ image₀ run₀ at₀ records times work image run at =
     (length records ≡ length records₀) × (length times ≡ length times₀) × (length work ≡ length work₀) × (length image ≡ length image₀)
 
 abbrev μ-loop : tie.MeasureT-loop
-μ-loop sheet records₀ times₀ work₀ image₀ bench₀ at₀ records times work image bench at = length sheet - at
+μ-loop sheet records₀ times₀ work₀ image₀ run₀ at₀ records times work image run at = length sheet - at
 
-fresh-bench-requires : tie.Need-fresh-bench-requires Inv-loop μ-loop
-fresh-bench-requires c κs = search needs
+fresh-run-requires : tie.Need-fresh-run-requires Inv-loop μ-loop
+fresh-run-requires c κs = search needs
 
 loop-holds : tie.Need-loop-holds Inv-loop μ-loop
 loop-holds c = search needs
@@ -57,7 +57,7 @@ take-lines-spec =
     (tie.spec
     Inv-loop
     μ-loop
-    fresh-bench-requires
+    fresh-run-requires
     loop-holds
     past-requires
     between-requires

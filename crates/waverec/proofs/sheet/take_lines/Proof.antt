@@ -10,15 +10,15 @@ use Rattle.waverec.proofs.sheet.take_lines.Statement.{statement}
 use Rattle.waverec.proofs.sheet.take_lines.Tie as tie
 
 abbrev Inv-loop : tie.InvT-loop
-Inv-loop sheet quiet records₀ times₀ work₀ image₀ bench₀ at₀ number₀ records times work image bench at number =
+Inv-loop sheet quiet records₀ times₀ work₀ image₀ run₀ at₀ number₀ records times work image run at number =
     (number ≤ at) × (at ≤ length sheet + 1) × (length records ≡ length records₀) × (length times ≡ length times₀) × (length work ≡ length work₀) × (length image ≡ length image₀)
 
 abbrev μ-loop : tie.MeasureT-loop
-μ-loop sheet quiet records₀ times₀ work₀ image₀ bench₀ at₀ number₀ records times work image bench at number =
+μ-loop sheet quiet records₀ times₀ work₀ image₀ run₀ at₀ number₀ records times work image run at number =
     length sheet + 1 - at
 
-fresh-bench-requires : tie.Need-fresh-bench-requires Inv-loop μ-loop
-fresh-bench-requires c κs = search needs
+fresh-run-requires : tie.Need-fresh-run-requires Inv-loop μ-loop
+fresh-run-requires c κs = search needs
 
 loop-holds : tie.Need-loop-holds Inv-loop μ-loop
 loop-holds c = search needs
@@ -92,7 +92,7 @@ take-lines-spec =
     (tie.spec
     Inv-loop
     μ-loop
-    fresh-bench-requires
+    fresh-run-requires
     loop-holds
     line-end-requires
     between-requires

@@ -1,5 +1,5 @@
-// What the bench holds between two lines: the recording's state, how many records it has, how much of each array is lent, and the
-// image's total.
+// What a run of a sheet holds between two lines: the recording's state, how many records it has, how much of each array is lent, and
+// the image's total.
 use plan::Outcome;
 use recording::Answer;
 use recording::Encoder;
@@ -10,7 +10,7 @@ pub struct Lent {
     pub image: usize,
 }
 
-pub struct Bench {
+pub struct Run {
     pub state: Encoder,
     pub records: usize,
     pub lent: Lent,
@@ -22,7 +22,8 @@ pub struct Bench {
     pub quiet: bool,
 }
 
-pub fn fresh_bench(quiet: bool) -> Bench {
+// Before the first start nothing is open.
+pub fn fresh_run(quiet: bool) -> Run {
     let state = Encoder {
         closed: true,
         limit: 0,
@@ -39,7 +40,7 @@ pub fn fresh_bench(quiet: bool) -> Bench {
         work: 1048576,
         image: 1048576,
     };
-    Bench {
+    Run {
         state,
         records: 0,
         lent,
@@ -49,23 +50,25 @@ pub fn fresh_bench(quiet: bool) -> Bench {
     }
 }
 
-pub fn with_lent(bench: Bench, times: u64, work: u64, image: u64) -> Bench {
-    let mut next = bench;
+// The run after a line that says how much is lent.
+pub fn with_lent(run: Run, times: u64, work: u64, image: u64) -> Run {
+    let mut next = run;
     next.lent.times = times as usize;
     next.lent.work = work as usize;
     next.lent.image = image as usize;
     next
 }
 
-pub fn with_records(bench: Bench, records: usize) -> Bench {
-    let mut next = bench;
+// The run with that many records, for a start.
+pub fn with_records(run: Run, records: usize) -> Run {
+    let mut next = run;
     next.records = records;
     next
 }
 
-// The bench after a call.
-pub fn with_outcome(bench: Bench, outcome: Outcome) -> Bench {
-    let mut next = bench;
+// The run after a call.
+pub fn with_outcome(run: Run, outcome: Outcome) -> Run {
+    let mut next = run;
     let state = outcome.state;
     let answer = outcome.answer;
     next.state = state;

@@ -1,5 +1,5 @@
-// What the bench holds between two lines: the state, how many records the recording has, and how much of each buffer is lent, from its
-// start.
+// What a run of a sheet holds between two lines: the state, how many records the recording has, and how much of each buffer is lent, from
+// its start.
 use recording::Encoder;
 use text::number::number;
 use text::word;
@@ -10,14 +10,14 @@ pub struct Lent {
     pub image: usize,
 }
 
-pub struct Bench {
+pub struct Run {
     pub state: Encoder,
     pub records: usize,
     pub lent: Lent,
 }
 
 // Before the first start nothing is open.
-pub fn fresh_bench() -> Bench {
+pub fn fresh_run() -> Run {
     let state = Encoder {
         closed: true,
         limit: 0,
@@ -34,7 +34,7 @@ pub fn fresh_bench() -> Bench {
         work: 16384,
         image: 16384,
     };
-    Bench {
+    Run {
         state,
         records: 0,
         lent,
@@ -42,24 +42,24 @@ pub fn fresh_bench() -> Bench {
 }
 
 // `lend TIMES WORK IMAGE`.
-pub fn lent_by(bench: Bench, line: &[u8]) -> Bench {
-    let state = bench.state;
+pub fn lent_by(run: Run, line: &[u8]) -> Run {
+    let state = run.state;
     let lent = Lent {
         times: number(word(line, 1)) as usize,
         work: number(word(line, 2)) as usize,
         image: number(word(line, 3)) as usize,
     };
-    Bench {
+    Run {
         state,
-        records: bench.records,
+        records: run.records,
         lent,
     }
 }
 
-// The bench after a call.
-pub fn with_state(bench: Bench, state: Encoder, records: usize) -> Bench {
-    let lent = bench.lent;
-    Bench {
+// The run after a call.
+pub fn with_state(run: Run, state: Encoder, records: usize) -> Run {
+    let lent = run.lent;
+    Run {
         state,
         records,
         lent,
