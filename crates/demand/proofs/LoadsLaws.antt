@@ -25,7 +25,7 @@ use Rattle.history.specs.History.{History, noHistory, kept, listOf, topOf, kept
 use Rattle.loaded.specs.Opener.{kindAt}
 use Rattle.loaded.specs.Loading.{tableFrom, Load, load, loads, signalClass}
 use Rattle.loaded.specs.EntryBytes.{entriesBytes}
-use Rattle.loaded.specs.Reader.{unknownSignal, loadIn, loadFrom, loadOf, loadAfter, loaded, indexIn, tableIn, tableBy, tableOf, tableAfter, counted}
+use Rattle.loaded.specs.Reader.{unknownSignal, loadIn, loadBy, loadOf, loadAfter, loaded, indexIn, tableIn, tableBy, tableOf, tableAfter, counted}
 use Rattle.loaded.specs.Reader as reader
 use Rattle.model.specs.Model.{Chunk, noModel}
 use Rattle.model.proofs.HistoryLaws.{history-rising}
@@ -90,7 +90,7 @@ module _ (limit : ℕ) (ks : List SignalEncoding) (h : History) (b : List ℕ) (
       let x : Image = imageFor limit ks (f .model .blocks) in
       let c = class-is g in
       let u : unknownSignal x g ≡ false = or-false (leb (length ks) g) (absent (getD ks g Absent)) (lt-leb (length ks) g l) (not-absent (getD ks g Absent) a) in
-      ap (λ (o : Option Image). loadFrom o g index bytes) parsed
+      ap (λ (o : Option Image). loadBy o g index bytes) parsed
       ∙ load-is x g (load (h .times) (keptOf h g) (topOf g (h .changes))) index bytes (signal-load g l) u i
       (subst (λ (n : ℕ). length (entriesBytes (getD ks g Absent) n (keptOf h g)) ≤ length bytes) (sym c) j)
       ∙ ap (λ (n : ℕ). loadAfter (loaded (length (keptOf h g)) n) (sets index 0 (map indexIn (keptOf h g))) (sets bytes 0 (entriesBytes (getD ks g Absent) n (keptOf h g)))) c

@@ -1,6 +1,6 @@
 -- Every call, whole, on memory that stands for a model: it is refused and nothing changes, or it does and answers what the model does.
 -- Assumes nothing.
-use Prim.Native.Nat.{ℕ, zero, suc, _+_, _-_, _≤_, _<_}
+use Prim.Native.Nat.{ℕ, _+_, _-_, _≤_, _<_}
 use mathlib.Core.Path.{_≡_, refl, sym, ap, _∙_, subst}
 use mathlib.Core.Bool.{Bool, true, false, _||_}
 use mathlib.Core.List.{List, [], _∷_}
@@ -11,8 +11,8 @@ use lib.Dec.{ltb, leb, eqb}
 use Rattle.lists.specs.Choice.{pick}
 use Rattle.lists.proofs.ChoiceLaws.{none-holds}
 use Rattle.signal.specs.declared.kind.SignalEncoding.{SignalEncoding}
-use Rattle.signal.specs.declared.kind.SignalEncoding.the-variants.{BitVector, Real, Absent}
-use Rattle.signal.specs.Kind.{absent, topLimit}
+use Rattle.signal.specs.declared.kind.SignalEncoding.the-variants.{Absent}
+use Rattle.signal.specs.Kind.{absent}
 use Rattle.signal.specs.Content.{Given, Decoded, refuse, accept, decode}
 use Rattle.signal.proofs.DecodeLaws.{accepted}
 use Rattle.recording.specs.Calls.{Call, time, change, finish, ValueFits, CallFits, recorded, say, total, isRefusal, heardOf, Way, above, equal, below, wayOf, counted}
@@ -21,6 +21,7 @@ use Rattle.recording.specs.Memory.{Memory, After, after, recordAt, guarded, ref
 use Rattle.recording.specs.Refusals.{openTests, signalTests}
 use Rattle.recording.specs.Step.{withState, Cut, noCut, cuts, cutOf, cutIn, timeCut, timeBy, timeOf, skipping, skippedOne, recordedIn, changeBy, changeOf, closedNow, closing, finishCut, finishOf, step}
 use Rattle.recording.specs.Step as step
+use Rattle.codec.proofs.ImageFits.{top-small}
 use Rattle.model.specs.Model.{Model, model, cut, timed, modelTime, modelChange, close, noTime, modelStep}
 use Rattle.model.proofs.ValidLaws.{value-given}
 use Rattle.follow.specs.Answers.{wayAnswer, changeAnswer, modelAnswer}
@@ -49,12 +50,6 @@ none-yes (x ∷ l) h = absurd (omega arith)
 none-no : (l : List ℕ) → 0 < length l → noTime l ≡ false
 none-no [] h = absurd (omega arith)
 none-no (x ∷ l) h = refl
-
-top-two : (k : SignalEncoding) → topLimit k ≤ 2
-top-two (BitVector zero) = omega arith
-top-two (BitVector (suc w)) = omega arith
-top-two Real = omega arith
-top-two Absent = omega arith
 
 module _ (limit : ℕ) (ks : List SignalEncoding) where
   refuses : (m : Memory) (p : Model) (c : Call) (n : ℕ) → (n ≡ 10 → ⊥) → Rep limit ks m p → Good limit ks m p c (refused m n)
@@ -188,7 +183,7 @@ module _ (limit : ℕ) (ks : List SignalEncoding) where
   read-good m p g v (refuse n) q fit up x h k s r = refuses m p (change g v) n (decode-ten (getD ks g Absent) v n q) r
   read-good m p g v (accept a c) q fit up x h k s r =
       let y = accepted (getD ks g Absent) v a c (value-given v fit) q in
-      let two : c ≤ 2 = omega (arith, y .limit, top-two (getD ks g Absent)) in
+      let two : c ≤ 2 = omega (arith, y .limit, top-small (getD ks g Absent)) in
       let b : List ℕ = bytesIn limit ks m g a in
       subst (Good limit ks m p (change g v)) (sym (room-is limit ks m p g (length b) (refused m) (after (say recorded) (recordedIn m g b c)) h r))
       (on-pick m p (change g v) (ltb (length (m .work)) (m .state .work + (8 + length b))) _ _ (λ z. refuses m p (change g v) 7 (λ t. omega arith) r)

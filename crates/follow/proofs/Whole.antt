@@ -1,7 +1,7 @@
 -- A whole list of calls from a start that is taken: it follows the model and so the history, and an accepted finish leaves the bytes of a
 -- valid image, whose blocks join to the history.
 -- Assumes nothing.
-use Prim.Native.Nat.{ℕ, _-_}
+use Prim.Native.Nat.{ℕ}
 use mathlib.Core.Path.{_≡_, refl, sym, ap, _∙_}
 use mathlib.Core.Bool.{Bool, true, false}
 use mathlib.Core.List.{List, [], _∷_}

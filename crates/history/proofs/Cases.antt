@@ -1,6 +1,5 @@
 -- What the calls of the bench sheet's skip say: the same answers and count as the recorder's (recording/proofs/Cases: skip-stands).
 -- Assumes nothing.
-use Prim.Native.Nat.{ℕ}
 use mathlib.Core.Path.{_≡_, refl}
 use mathlib.Core.Bool.{Bool, false}
 use mathlib.Core.List.{List, [], _∷_}

@@ -64,13 +64,13 @@ loadIn x g index bytes =
     (pick (ltb (length index) n || ltb (length bytes) (length out)) (loadAfter (refuse 9) index bytes)
     (loadAfter (loaded n (signalClass l)) (sets index 0 (map indexIn (l .entries))) (sets bytes 0 out)))
 
-abbrev pub loadFrom : Option Image → (signal : ℕ) → (index bytes : List ℕ) → LoadAfter
-loadFrom none g index bytes = loadAfter (refuse 11) index bytes
-loadFrom (some x) g index bytes = loadIn x g index bytes
+abbrev pub loadBy : Option Image → (signal : ℕ) → (index bytes : List ℕ) → LoadAfter
+loadBy none g index bytes = loadAfter (refuse 11) index bytes
+loadBy (some x) g index bytes = loadIn x g index bytes
 
 -- answers the number of kept entries and C
 abbrev pub loadOf : (image : List ℕ) → (signal : ℕ) → (index bytes : List ℕ) → LoadAfter
-loadOf b g index bytes = loadFrom (parse b) g index bytes
+loadOf b g index bytes = loadBy (parse b) g index bytes
 
 -- ---- the combined table: 11, 9
 

@@ -33,10 +33,6 @@ pub record Same (p : Model) (h : History) : Type 0 where
   pub first : length (p .now .times) ≡ 0 → (p .blocks ≡ []) × (p .now .changes ≡ [])
   pub shut : p .closed ≡ true → joined noChunk (p .blocks) ≡ told h
 
-no-length : (l : List ℕ) → length l ≡ 0 → l ≡ []
-no-length [] h = refl
-no-length (x ∷ l) h = absurd (omega arith)
-
 -- ---- what is joined, after a time, after a change, after a cut
 
 add-time : (l b : Chunk) (t : ℕ) → 0 < length (b .times)
