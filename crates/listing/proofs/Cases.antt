@@ -28,7 +28,7 @@ use Rattle.codec.specs.Valid.{Valid, risingFrom?, rising?, eachBelow?, knownKin
 use Rattle.codec.specs.Parse.{parse}
 use Rattle.codec.proofs.Trip.{parse-of}
 use Rattle.loaded.specs.Loading.{tableFrom, moved, repeatsLast, pushed, loadFrom}
-use Rattle.loaded.proofs.BenchLoads.{bench, benchBytes, bench-parse}
+use Rattle.loaded.proofs.BenchLoads.{benchBytes, bench-parse}
 use Rattle.listing.specs.Listing.{timeLines, entryLines, signalsFrom, imageText, textOf, inputLimit, listingOf}
 
 pub bench-listing : listingOf benchBytes ≡ ascii "signals 2 times 2 blocks 1\ntime 0 10\ntime 1 20\nsignal 0 width 1 class 0 changes 1\n0 1\nsignal 1 width 4 class 1 changes 2\n0 001x\n1 0001\n"

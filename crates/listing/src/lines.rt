@@ -16,6 +16,7 @@ fn put_named(out: &mut [u8], at: usize, words: &[u8], n: u64) -> usize
     put_decimal(out, p, n)
 }
 
+// The first line: how many signals, times and blocks the image has.
 pub fn put_head(out: &mut [u8], at: usize, signals: u64, times: u64, blocks: u64) -> usize
     requires { ⌜ Room (headLine signals times blocks) at (now out) ⌝ }
     ensures { λ r. ⌜ Puts (headLine signals times blocks) at (now (out .entry)) r (now (out .exit)) ⌝ }
@@ -26,6 +27,7 @@ pub fn put_head(out: &mut [u8], at: usize, signals: u64, times: u64, blocks: u64
     put_text(out, r, b"\n")
 }
 
+// One time of the table, with its index.
 fn put_time(out: &mut [u8], at: usize, index: u64, time: u64) -> usize
     requires { ⌜ Room (timeLine index time) at (now out) ⌝ }
     ensures { λ r. ⌜ Puts (timeLine index time) at (now (out .entry)) r (now (out .exit)) ⌝ }
@@ -49,6 +51,7 @@ pub fn put_times(out: &mut [u8], at: usize, times: &[u64]) -> usize
     p
 }
 
+// A vector's words. An event is the vector of width 0 and has no class.
 fn put_vector(out: &mut [u8], at: usize, width: u32, class: u64, changes: u64) -> usize
     requires { ⌜ Room (vectorWords width class ++ ascii " changes " ++ decimal changes) at (now out) ⌝ }
     ensures { λ r. ⌜ Puts (vectorWords width class ++ ascii " changes " ++ decimal changes) at (now (out .entry)) r (now (out .exit)) ⌝ }
@@ -61,6 +64,7 @@ fn put_vector(out: &mut [u8], at: usize, width: u32, class: u64, changes: u64) -
     put_named(out, q, b" changes ", changes)
 }
 
+// A signal's words by its kind. Of an absent one nothing is counted.
 fn put_kind(out: &mut [u8], at: usize, kind: SignalEncoding, class: u64, changes: u64) -> usize
     requires { ⌜ Room (kindWords kind class changes) at (now out) ⌝ }
     ensures { λ r. ⌜ Puts (kindWords kind class changes) at (now (out .entry)) r (now (out .exit)) ⌝ }
