@@ -49,6 +49,7 @@ pub struct CursorNumbers {
     pub content: ContentNumbers,
 }
 
+// `value` is 0, or the refusal's number.
 #[repr(C)]
 pub struct EntryNumbers {
     pub answer: u32,
@@ -56,6 +57,7 @@ pub struct EntryNumbers {
     pub content: ContentNumbers,
 }
 
+// The answer of a load: 8, or 0 with the refusal's number.
 pub fn load_numbers(answer: LoadAnswer) -> LoadNumbers
     ensures { λ r. ⌜ r ≡ loadNumbersOf (loadReply answer) ⌝ }
 {
@@ -73,6 +75,7 @@ pub fn load_numbers(answer: LoadAnswer) -> LoadNumbers
     }
 }
 
+// The answer of the combined table: 9, or 0 with the refusal's number.
 pub fn table_numbers(answer: TableAnswer) -> TableNumbers
     ensures { λ r. ⌜ r ≡ tableNumbersOf (tableReply answer) ⌝ }
 {
@@ -99,6 +102,7 @@ fn no_content() -> ContentNumbers
     }
 }
 
+// An entry's content. Of a real the bits are told, not the f64: they are exact for every pattern.
 fn content_numbers(entry: Entry) -> ContentNumbers
     ensures { λ r. ⌜ r ≡ contentOf (entryReply entry) ⌝ }
 {
@@ -123,6 +127,7 @@ fn content_numbers(entry: Entry) -> ContentNumbers
     }
 }
 
+// The answer of the cursor: 10, 11 where the signal has no entry, or 0 with the refusal's number.
 pub fn cursor_numbers(answer: CursorAnswer) -> CursorNumbers
     ensures { λ r. ⌜ r ≡ cursorNumbersOf (cursorReply answer) ⌝ }
 {
@@ -148,6 +153,7 @@ pub fn cursor_numbers(answer: CursorAnswer) -> CursorNumbers
     }
 }
 
+// The answer to one entry: 12, 13 where the bytes are no entry, or 0 with the refusal's number.
 pub fn entry_numbers(answer: EntryAnswer) -> EntryNumbers
     ensures { λ r. ⌜ r ≡ entryNumbersOf (answerReply answer) ⌝ }
 {
