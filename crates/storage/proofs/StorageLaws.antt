@@ -84,10 +84,6 @@ storable-fresh r s = storable-with r 0 Two s (omega arith)
 pub storable-rewound : (r : SignalRecord) → Storable r → Storable (rewound r)
 storable-rewound r s = storable-with r 0 (r .top) s (omega arith)
 
-pub number-lt : (r : SignalRecord) → Storable r → numberFrom r < 2 ^ 64
-unfolding numberFrom
-number-lt r s = omega (arith, s .1, s .2)
-
 -- ---- a list of numbers
 
 numbers-records : (l : List ℕ) → map numberFrom (recordsOf l) ≡ l

@@ -77,6 +77,7 @@ pub fn rewound(record: SignalRecord) -> SignalRecord
     }
 }
 
+// The record that a number stands for: every number is one.
 pub fn record_from(n: u64) -> SignalRecord
     ensures { λ r. ⌜ r ≡ recordFrom n ⌝ }
 {
@@ -90,6 +91,7 @@ pub fn record_from(n: u64) -> SignalRecord
     }
 }
 
+// A record's number: its kind's, and above that three times its index plus its class.
 pub fn number_from(record: SignalRecord) -> u64
     requires { ⌜ Storable «record» ⌝ }
     ensures { λ r. ⌜ r ≡ numberFrom «record» ⌝ }
