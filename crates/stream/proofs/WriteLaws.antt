@@ -2,13 +2,12 @@
 -- Assumes nothing.
 use Prim.Native.Nat.{ℕ, suc, zero, _+_, _*_, _≤_, _<_, _^_}
 use mathlib.Core.Path.{_≡_, refl, sym, ap, ap₂, _∙_}
-use mathlib.Core.List.{List, [], _∷_, _++_}
+use mathlib.Core.List.{List, _++_}
 use native.Mathlib.Omega.{arith}
 use lib.ListN.{length, length-append}
 use lib.Seq.{sets, length-sets}
 use Rattle.lists.proofs.SetsLaws.{sets-append}
 use Rattle.numbers.specs.Leb128.{lebOf}
-use Rattle.numbers.specs.LittleEndian.{le}
 use Rattle.value.specs.Class.{classNumber, classOfAll}
 use Rattle.value.specs.declared.states.States.{States}
 use Rattle.value.specs.declared.states.States.the-variants.{Two, Four, Nine}
@@ -17,8 +16,8 @@ use Rattle.packed.proofs.PackedLaws.{length-packed}
 use Rattle.packer.specs.Notation.{symbolsFrom, Readable}
 use Rattle.packer.specs.declared.Notation.{Notation}
 use Rattle.packer.proofs.NotationLaws.{length-from}
-use Rattle.signal.specs.Content.{symbols, bits}
-use Rattle.signal.specs.declared.kind.SignalEncoding.the-variants.{BitVector, Real}
+use Rattle.signal.specs.Content.{symbols}
+use Rattle.signal.specs.declared.kind.SignalEncoding.the-variants.{BitVector}
 use Rattle.stream.specs.Stream.{changeBytes}
 
 -- a run of bytes after another
@@ -33,20 +32,12 @@ packed-small w Two h = omega arith
 packed-small w Four h = omega arith
 packed-small w Nine h = omega arith
 
--- the bytes of a change, in two runs
-pub real-bytes : (d b : ℕ) → changeBytes Real d (bits b) ≡ lebOf d ++ le 8 b
-unfolding changeBytes
-real-bytes d b = refl
-
+-- the bytes of a vector's change, in two runs
 pub wide-bytes : (w d : ℕ) (s : List ℕ) → 1 < w → changeBytes (BitVector w) d (symbols s) ≡ lebOf (d * 4 + classOfAll s) ++ packed (classOfAll s) s
 unfolding changeBytes
 wide-bytes zero d s h = absurd (omega arith)
 wide-bytes (suc zero) d s h = absurd (omega arith)
 wide-bytes (suc (suc w)) d s h = refl
-
-pub bit-bytes : (d x : ℕ) → changeBytes (BitVector 1) d (symbols (x ∷ [])) ≡ lebOf (d * 16 + x)
-unfolding changeBytes
-bit-bytes d x = refl
 
 -- room for the whole is room for its parts
 pub room-front : (a b : List ℕ) (at n : ℕ) → at + length (a ++ b) ≤ n → at + length a ≤ n
