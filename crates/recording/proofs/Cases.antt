@@ -2,9 +2,9 @@
 -- Assumes nothing.
 use Prim.Native.Nat.{ℕ}
 use mathlib.Core.Path.{_≡_, refl}
-use mathlib.Core.Bool.{true, false}
+use mathlib.Core.Bool.{false}
 use mathlib.Core.List.{List, [], _∷_, _++_}
-use lib.ListN.{take, drop, set}
+use lib.ListN.{take, set}
 use Rattle.lists.specs.Last.{lastOr}
 use Rattle.numbers.specs.Leb128.{groups, lebOf}
 use Rattle.numbers.specs.LittleEndian.{le, unle}
@@ -15,7 +15,6 @@ use Rattle.vcd.specs.Vcd.{symbolsIn, vcdBit}
 use Rattle.packed.specs.Packed.{numberOf, digits, packed, unpacked}
 use Rattle.packed.specs.Raw.{rawSymbols}
 use Rattle.signal.specs.Content.{vcd, raw, decode}
-use Rattle.signal.specs.declared.kind.SignalEncoding.{SignalEncoding}
 use Rattle.signal.specs.declared.kind.SignalEncoding.the-variants.{BitVector}
 use Rattle.stream.specs.Stream.{changeBytes}
 use Rattle.image.specs.Block.{les, dataOf, offsetsFrom, blockBytes}

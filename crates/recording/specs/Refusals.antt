@@ -1,8 +1,8 @@
 -- Document 01, 'Turned back': the refusals of start, time, change and finish that tests on numbers and one record decide, in the paper's
 -- order. 5 and 6 stand in signal/specs/Content.antt (decode), 8 and the cut's 10 in Step.antt (cutItems).
 -- Assumes nothing.
-use Prim.Native.Nat.{ℕ, _+_, _-_, _*_}
-use mathlib.Core.Bool.{Bool, true, false, _&&_, _||_, not}
+use Prim.Native.Nat.{ℕ, _+_, _-_}
+use mathlib.Core.Bool.{Bool, false, _&&_, _||_, not}
 use mathlib.Core.List.{List, [], _∷_}
 use lib.ListN.{length}
 use lib.Dec.{ltb, leb, eqb}

@@ -2,7 +2,7 @@
 -- Assumes nothing.
 use Prim.Native.Nat.{ℕ}
 use mathlib.Core.Bool.{true}
-use mathlib.Core.List.{List, [], _∷_, map}
+use mathlib.Core.List.{List, map}
 use lib.ListN.{length, take, replicate}
 use Rattle.value.specs.declared.states.States.the-variants.{Nine}
 use Rattle.signal.specs.declared.kind.SignalEncoding.{SignalEncoding}
