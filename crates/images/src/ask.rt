@@ -11,6 +11,7 @@ use reader::cursor;
 use reader::load;
 use reader::stream;
 use reader::table;
+use recording::SignalRef;
 use text::number::number;
 use text::number::number_32;
 use text::print;
@@ -47,12 +48,17 @@ fn ask_load(
     if bytes.len() < size {
         return print(b"not so many\n");
     }
-    let answer = load(image, signal, &mut index[0..entries], &mut bytes[0..size]);
+    let answer = load(
+        image,
+        SignalRef(signal),
+        &mut index[0..entries],
+        &mut bytes[0..size],
+    );
     print_loaded(answer, &*index, &*bytes)
 }
 
 fn ask_stream(image: &[u8], block: u32, signal: u32) {
-    print_bytes(stream(image, block, signal));
+    print_bytes(stream(image, block, SignalRef(signal)));
     print(b"\n")
 }
 
@@ -60,7 +66,7 @@ fn ask_cursor(image: &[u8], signal: u32, time: u64, room: usize, symbols: &mut [
     if symbols.len() < room {
         return print(b"not so many\n");
     }
-    let answer = cursor(image, signal, time, &mut symbols[0..room]);
+    let answer = cursor(image, SignalRef(signal), time, &mut symbols[0..room]);
     print_cursor(answer, &*symbols)
 }
 

@@ -15,6 +15,7 @@ use opener::open;
 use reader::cursor;
 use reader::load;
 use reader::table;
+use recording::SignalRef;
 use storage::kind_from;
 use value::states::States;
 ghost use mathlib.Core.Path.{_≡_};
@@ -47,7 +48,7 @@ pub extern "C" fn wejumo_load(
 ) -> LoadNumbers
     ensures { λ r. ⌜ loadTold r (now (index .exit)) (now (bytes .exit)) ≡ loadToldOf (loadOf (now (image .entry)) signal (now (index .entry)) (now (bytes .entry))) ⌝ }
 {
-    load_numbers(load(image, signal, index, bytes))
+    load_numbers(load(image, SignalRef(signal), index, bytes))
 }
 
 // The combined table. 11, 9.
@@ -79,7 +80,7 @@ pub extern "C" fn wejumo_cursor(
 ) -> CursorNumbers
     ensures { λ r. ⌜ cursorTold r (now (out .exit)) ≡ cursorToldOf (cursorOf (now (image .entry)) signal time (now (out .entry))) ⌝ }
 {
-    cursor_numbers(cursor(image, signal, time, out))
+    cursor_numbers(cursor(image, SignalRef(signal), time, out))
 }
 
 // A number above 1 gives Nine.

@@ -10,7 +10,7 @@ open-requires : tie.Need-open-requires
 open-requires c κs = search needs
 
 returns : tie.Need-returns
-returns c = let a = c .before .before .before .before .args in cursor-closed (a .image .now) (a .signal) (a .time) (a .out .now) (sym (c .before .open .ensures) ∙ not-true _ (c .if1 .taken))
+returns c = let a = c .before .before .before .before .args in cursor-closed (a .image .now) (a .signal .0) (a .time) (a .out .now) (sym (c .before .open .ensures) ∙ not-true _ (c .if1 .taken))
 
 cursor-in-requires : tie.Need-cursor-in-requires
 cursor-in-requires c κs = (sym (c .before .before .open .ensures) ∙ not-false _ (c .before .if1 .left))
@@ -19,7 +19,7 @@ same-length : tie.Need-same-length
 same-length c = search needs
 
 returns-2 : tie.Need-returns-2
-returns-2 c = let a = c .before .before .before .before .before .before .before .before .args in c .before .before .cursor-in .ensures ∙ sym (cursor-opened (a .image .now) (a .signal) (a .time) (a .out .now) (sym (c .before .before .before .before .before .open .ensures) ∙ not-false _ (c .before .before .before .before .if1 .left)))
+returns-2 c = let a = c .before .before .before .before .before .before .before .before .args in c .before .before .cursor-in .ensures ∙ sym (cursor-opened (a .image .now) (a .signal .0) (a .time) (a .out .now) (sym (c .before .before .before .before .before .open .ensures) ∙ not-false _ (c .before .before .before .before .if1 .left)))
 
 pub cursor-spec : {M : Type 1} → statement M
 cursor-spec = tie.close (tie.spec open-requires returns cursor-in-requires same-length returns-2)

@@ -19,7 +19,7 @@ part-result-end : tie.Need-part-result-end
 part-result-end c = search needs
 
 returns : tie.Need-returns
-returns c = let a = c .before .before .before .before .args in stream-closed (a .image .now) (a .block) (a .signal) (sym (c .before .before .open .ensures) ∙ not-true _ (c .before .if1 .taken))
+returns c = let a = c .before .before .before .before .args in stream-closed (a .image .now) (a .block) (a .signal .0) (sym (c .before .before .open .ensures) ∙ not-true _ (c .before .if1 .taken))
 
 stream-in-requires : tie.Need-stream-in-requires
 stream-in-requires c κs = (sym (c .before .open .ensures) ∙ not-false _ (c .if1 .left))
