@@ -12,7 +12,7 @@ use lib.ListN.{length, getD}
 use Rattle.lists.specs.Choice.{pick}
 use Rattle.lists.proofs.ChoiceLaws.{both-hold}
 use Rattle.lists.proofs.Table.{at}
-use Rattle.value.specs.Symbol.{placeFrom, letters, lowered, symbolOf, orNumber}
+use Rattle.value.specs.Symbol.{placeFrom, letters, lowered, symbolOf, isDigit, orNumber}
 
 abbrev pub Below : ℕ → Option ℕ → Type 0
 Below k none = Unit {0}
@@ -50,12 +50,12 @@ letter-symbol x h =
     some-number (symbolOf (getD letters x 0)) x (sym e) (λ f. omega arith)
 
 -- the letters 0 and 1
-pub digit-symbol : (b : ℕ) (t : Bool) → t ≡ leb 48 b && leb b 49 → t ≡ true → (48 ≤ b) × (symbolOf b ≡ some (b - 48))
+pub digit-symbol : (b : ℕ) (t : Bool) → t ≡ isDigit b → t ≡ true → (48 ≤ b) × (b ≤ 49) × (symbolOf b ≡ some (b - 48))
 digit-symbol b t e h =
     let both = both-hold (leb 48 b) (leb b 49) (sym e ∙ h) in
     let low : 48 ≤ b = leb-true 48 b (both .0) in
     let high : b ≤ 49 = leb-true b 49 (both .1) in
-    (low, subst (λ (x : ℕ). symbolOf x ≡ some (b - 48)) (omega arith) (from (b - 48) (omega arith)))
+    (low, high, subst (λ (x : ℕ). symbolOf x ≡ some (b - 48)) (omega arith) (from (b - 48) (omega arith)))
   where
     from : (d : ℕ) → d < 2 → symbolOf (d + 48) ≡ some d
     from zero h = unfold symbolOf in refl

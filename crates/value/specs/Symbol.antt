@@ -1,7 +1,7 @@
 -- Document 01, 'Symbol and value': which byte stands for which symbol. A symbol is a number, 0 to 8.
 -- Assumes nothing.
 use Prim.Native.Nat.{ℕ, suc, _+_}
-use mathlib.Core.Bool.{_&&_}
+use mathlib.Core.Bool.{Bool, _&&_}
 use mathlib.Core.List.{List, [], _∷_}
 use mathlib.Core.Option.{Option, some, none}
 use lib.Dec.{eqb, leb}
@@ -25,6 +25,10 @@ placeFrom b n (x ∷ l) = pick (eqb b x) (some n) (placeFrom b (suc n) l)
 -- the symbol of a byte; none is "no symbol"
 unfoldable pub symbolOf : ℕ → Option ℕ
 symbolOf b = placeFrom (lowered b) 0 letters
+
+-- the letters 0 and 1
+abbrev pub isDigit : ℕ → Bool
+isDigit b = leb 48 b && leb b 49
 
 -- the answer of the code
 abbrev pub maybeBit : Option ℕ → MaybeBit

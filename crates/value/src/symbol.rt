@@ -1,8 +1,6 @@
 // Symbols: the nine values of a bit, and the bytes that stand for them.
 ghost use mathlib.Core.Path.{_≡_};
-ghost use mathlib.Core.Bool.{_&&_};
-ghost use lib.Dec.{leb};
-ghost use Rattle.value.specs.Symbol.{symbolOf, maybeBit, orNumber};
+ghost use Rattle.value.specs.Symbol.{symbolOf, isDigit, maybeBit, orNumber};
 
 // A symbol's number: 0 1 x z h u w l - are 0 to 8.
 pub struct Bit(pub u8);
@@ -281,8 +279,8 @@ fn table_number(value: u8) -> u8
 }
 
 // Whether a byte is the letter 0 or 1.
-fn is_digit(value: u8) -> bool
-    ensures { λ r. ⌜ r ≡ (leb 48 value && leb value 49) ⌝ }
+pub fn is_digit(value: u8) -> bool
+    ensures { λ r. ⌜ r ≡ isDigit value ⌝ }
 {
     if value < b'0' {
         return false;

@@ -1,26 +1,27 @@
 -- The symbols of bytes: by induction over the bytes, one byte more at a time; their class is that of the largest symbol.
 -- Assumes nothing.
-use Prim.Native.Nat.{ℕ, zero, suc, _+_, _≤_, _<_, max}
+use Prim.Native.Nat.{ℕ, zero, suc, _+_, _-_, _≤_, _<_, max, zero-le}
 use mathlib.Core.Path.{_≡_, refl, sym, ap, _∙_}
-use mathlib.Core.Bool.{true}
+use mathlib.Core.Bool.{Bool, true, false, _&&_}
 use mathlib.Core.List.{List, [], _∷_}
 use mathlib.Core.Option.{Option, some, none}
 use native.Mathlib.Nat.{zero-max, max-zero}
 use native.Mathlib.Numerals.{add-one}
 use native.Mathlib.Omega.{arith}
-use borrow.Author.Tests.{le-leb}
+use borrow.Author.Tests.{le-leb, lt-ltb}
 use lib.Dec.{leb}
 use lib.ListN.{length, getD, drop, drop-of-length-le}
 use lib.Seq.{drop-cons}
 use Rattle.lists.specs.Choice.{bind}
-use Rattle.lists.proofs.ChoiceLaws.{Where, where-some, where-bind}
-use Rattle.value.specs.Symbol.{symbolOf, orNumber}
+use Rattle.lists.proofs.ChoiceLaws.{Where, where-some, where-bind, both-hold}
+use Rattle.value.specs.Symbol.{symbolOf, isDigit, orNumber}
 use Rattle.value.specs.Class.{statesOf, classOf, allSymbols, largestOf}
 use Rattle.value.specs.declared.states.MaybeStates.{MaybeStates}
 use Rattle.value.specs.declared.states.MaybeStates.the-variants.{Some, None}
-use Rattle.value.proofs.SymbolLaws.{Below, symbol-below, none-number, some-number}
+use Rattle.value.proofs.SymbolLaws.{Below, symbol-below, none-number, some-number, digit-symbol}
 use Rattle.value.proofs.ClassLaws.{class-largest}
-use Rattle.vcd.specs.Vcd.{symbolsIn, asciiStates}
+use Rattle.value.specs.declared.states.States.the-variants.{Two}
+use Rattle.vcd.specs.Vcd.{symbolsIn, asciiStates, allDigits}
 
 -- one byte more
 pub symbols-none : (b : ℕ) (u : List ℕ) → symbolOf b ≡ none → symbolsIn (b ∷ u) ≡ none
@@ -98,3 +99,32 @@ seen-bad m i u h e f =
 pub seen-end : (m i : ℕ) (u : List ℕ) → length u ≤ i → seen m (symbolsIn (drop i u)) ≡ Some (statesOf (classOf m))
 unfolding symbolsIn largestOf
 seen-end m i u h = rw (drop-of-length-le u h, max-zero m) refl
+
+-- letters 0 and 1 alone
+seen-binary : (m : ℕ) (u : List ℕ) → m < 2 → allDigits u ≡ true → seen m (symbolsIn u) ≡ Some Two
+unfolding allDigits
+seen-binary m [] h e = seen-end m 0 [] zero-le ∙ rw (lt-ltb m 2 h) refl
+seen-binary m (b ∷ u) h e =
+    let p = both-hold (isDigit b) (allDigits u) e in
+    let d = digit-symbol b (isDigit b) refl (p .0) in
+    seen-more m b u (d .2) ∙ seen-binary (max m (b - 48)) u (omega arith) (p .1)
+
+pub binary-two : (u : List ℕ) → allDigits u ≡ true → Some Two ≡ asciiStates (symbolsIn u)
+binary-two u e = sym (seen-binary 0 u (omega arith) e) ∙ seen-start (symbolsIn u)
+
+-- one letter more
+digits-from : (i : ℕ) (u : List ℕ) → i < length u → allDigits (drop i u) ≡ isDigit (getD u i 0) && allDigits (drop (i + 1) u)
+unfolding allDigits
+digits-from i u h = rw (add-one i, drop-cons u i 0 h) refl
+
+pub digits-no : (all : Bool) (i : ℕ) (u : List ℕ) → i < length u → isDigit (getD u i 0) ≡ false → all && allDigits (drop i u) ≡ allDigits u → false ≡ allDigits u
+digits-no true i u h e k = rw (digits-from i u h, e) at k
+digits-no false i u h e k = k
+
+pub digits-yes : (all : Bool) (i : ℕ) (u : List ℕ) → i < length u → isDigit (getD u i 0) ≡ true → all && allDigits (drop i u) ≡ allDigits u → all && allDigits (drop (i + 1) u) ≡ allDigits u
+digits-yes all i u h e k = rw (digits-from i u h, e) at k
+
+pub digits-all : (all : Bool) (i : ℕ) (u : List ℕ) → length u ≤ i → all && allDigits (drop i u) ≡ allDigits u → all ≡ allDigits u
+unfolding allDigits
+digits-all true i u h k = rw (drop-of-length-le u h) at k
+digits-all false i u h k = k

@@ -1,14 +1,14 @@
 -- Document 01, 'Symbol and value': what a VCD value says of a vector of a width (`decode_vcd_bit_vec_change`). `none` is "bad".
 -- Assumes nothing.
 use Prim.Native.Nat.{ℕ, zero, suc, _-_}
-use mathlib.Core.Bool.{_&&_, _||_}
+use mathlib.Core.Bool.{Bool, true, _&&_, _||_}
 use mathlib.Core.List.{List, [], _∷_, _++_}
 use mathlib.Core.Option.{Option, some, none}
 use lib.ListN.{length, drop, getD, replicate}
 use lib.Dec.{ltb, eqb}
 use Rattle.lists.specs.Choice.{pick, bind}
 use Rattle.lists.specs.Last.{lastOr}
-use Rattle.value.specs.Symbol.{symbolOf}
+use Rattle.value.specs.Symbol.{symbolOf, isDigit}
 use Rattle.value.specs.Class.{statesOf, classOfAll}
 use Rattle.value.specs.declared.states.MaybeStates.{MaybeStates}
 use Rattle.value.specs.declared.states.MaybeStates.the-variants.{Some, None}
@@ -56,6 +56,11 @@ vcdSymbols (suc (suc w)) v = textSymbols (suc (suc w)) (textOf v)
 abbrev pub asciiStates : Option (List ℕ) → MaybeStates
 asciiStates none = None
 asciiStates (some s) = Some (statesOf (classOfAll s))
+
+-- a text of the letters 0 and 1 alone
+unfoldable pub allDigits : List ℕ → Bool
+allDigits [] = true
+allDigits (b ∷ v) = isDigit b && allDigits v
 
 -- the symbols of a good text
 abbrev pub orEmpty : Option (List ℕ) → List ℕ

@@ -9,6 +9,7 @@ use value::states::States;
 use value::symbol::Bit;
 use value::symbol::MaybeBit;
 use value::symbol::bit_char_to_num;
+use value::symbol::is_digit;
 use value::symbol::symbol_number;
 ghost use mathlib.Core.Path.{_≡_};
 ghost use mathlib.Core.Bool.{true};
@@ -16,7 +17,7 @@ ghost use Prim.Native.Nat.{_<_};
 ghost use lib.ListN.{getD};
 ghost use Rattle.lists.specs.Choice.{isSome};
 ghost use Rattle.value.specs.Change.{changeOf};
-ghost use Rattle.vcd.specs.Vcd.{withoutB, without0b, textOf, textSymbols, vcdBit, vcdSymbols, symbolsIn, asciiStates, orEmpty};
+ghost use Rattle.vcd.specs.Vcd.{withoutB, without0b, textOf, textSymbols, vcdBit, vcdSymbols, symbolsIn, asciiStates, allDigits, orEmpty};
 
 // The value without one leading `b` or `B`.
 fn without_b(value: &[u8]) -> &[u8]
@@ -57,10 +58,29 @@ pub fn vcd_text(value: &[u8]) -> &[u8]
     without_0b(without_b(value))
 }
 
+// Whether a text has the letters 0 and 1 alone. The loop has no exit on its way, so that the compiler looks at many letters in a turn.
+fn is_binary(text: &[u8]) -> bool
+    ensures { λ r. ⌜ r ≡ allDigits (now (text .entry)) ⌝ }
+{
+    let mut all = true;
+    let mut i = 0;
+    while i < text.len() {
+        let digit = is_digit(text[i]);
+        i += 1;
+        if !digit {
+            all = false;
+        }
+    }
+    all
+}
+
 // The class of a text's symbols; none where a byte has no symbol.
 fn states_from_ascii(text: &[u8]) -> MaybeStates
     ensures { λ r. ⌜ r ≡ asciiStates (symbolsIn (now (text .entry))) ⌝ }
 {
+    if is_binary(text) {
+        return MaybeStates::Some(States::Two);
+    }
     let mut largest: u8 = 0;
     let mut i = 0;
     while i < text.len() {

@@ -13,7 +13,7 @@ sub-t4 : tie.Need-sub-t4
 sub-t4 c = digit-symbol _ _ (c .before .is-digit .ensures) (c .if1 .taken) .0
 
 returns : tie.Need-returns
-returns c = sym (ap maybeBit (digit-symbol _ _ (c .before .is-digit .ensures) (c .if1 .taken) .1))
+returns c = sym (ap maybeBit (digit-symbol _ _ (c .before .is-digit .ensures) (c .if1 .taken) .2))
 
 table-number-requires : tie.Need-table-number-requires
 table-number-requires c κs = search needs

@@ -14,7 +14,7 @@ sub-result : tie.Need-sub-result
 sub-result c = digit-symbol _ _ (c .before .is-digit .ensures) (c .if1 .taken) .0
 
 returns : tie.Need-returns
-returns c = sym (ap (orNumber 255) (digit-symbol _ _ (c .before .is-digit .ensures) (c .if1 .taken) .1))
+returns c = sym (ap (orNumber 255) (digit-symbol _ _ (c .before .is-digit .ensures) (c .if1 .taken) .2))
 
 table-number-requires : tie.Need-table-number-requires
 table-number-requires c κs = search needs
