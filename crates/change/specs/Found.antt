@@ -1,5 +1,5 @@
 -- What a change does to the state, to its signal's record and to the work buffer: `changeOf` (crate recording) as far as it concerns
--- them (proofs/FoundLaws).
+-- them (proofs/ChangeLaws).
 -- Assumes nothing.
 use Prim.Native.Nat.{ℕ, _+_, _-_, max}
 use mathlib.Core.Bool.{Bool}

@@ -1,7 +1,7 @@
 // A change, as far as it concerns the state, its signal's record and the work buffer. Document 01, 'Recording' and 'Turned back'.
 //
 // All is decided on one record by value, so that it does not matter how records are stored. The contracts cite specs/Found.antt, which
-// is `changeOf` of crate recording for one record.
+// is `changeOf` of crate recording for one record; specs/Stages.antt says what is answered on the way.
 //
 // Each notation has its own path from the tests to the bytes, so that each call compiles into one function.
 use crate::admission::Admission;

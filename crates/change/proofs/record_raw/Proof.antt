@@ -1,8 +1,8 @@
 -- The head, then the bytes; `room` holds where the head is written.
-use native.Mathlib.Omega.{arith}
-use mathlib.Core.Path.{refl, _∙_}
-use lib.ListN.{length}
 use Prim.Native.Nat.{_-_}
+use mathlib.Core.Path.{refl, _∙_}
+use native.Mathlib.Omega.{arith}
+use lib.ListN.{length}
 use Rattle.signal.specs.Content.{raw}
 use Rattle.stream.specs.Answer.{saidBytes}
 use Rattle.change.proofs.FoundLaws.{Room, item-room, item-refused, item-done, answered}

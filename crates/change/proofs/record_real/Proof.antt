@@ -1,10 +1,10 @@
 -- The head, then the bytes; `room` holds where the head is written.
-use native.Mathlib.Omega.{arith}
-use mathlib.Core.Path.{_≡_, refl, ap, _∙_}
-use lib.ListN.{length}
 use Prim.Native.Nat.{_-_}
-use Rattle.signal.specs.Content.{bits, real}
+use mathlib.Core.Path.{_≡_, refl, ap, _∙_}
+use native.Mathlib.Omega.{arith}
+use lib.ListN.{length}
 use Rattle.signal.specs.declared.kind.SignalEncoding.the-variants.{Real}
+use Rattle.signal.specs.Content.{bits, real}
 use Rattle.stream.specs.Stream.{changeBytes}
 use Rattle.stream.specs.Answer.{saidBytes}
 use Rattle.change.proofs.NotationLaws.{real-said}
