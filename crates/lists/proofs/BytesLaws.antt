@@ -1,6 +1,6 @@
--- Parts of a list of bytes are lists of bytes.
+-- Parts of a list of bytes are lists of bytes, and a byte before one makes another.
 -- Assumes nothing.
-use Prim.Native.Nat.{ℕ, zero, suc, _+_}
+use Prim.Native.Nat.{ℕ, zero, suc, _+_, _<_}
 use mathlib.Core.List.{List, [], _∷_}
 use native.Mathlib.Omega.{arith}
 use lib.ListN.{drop, take}
@@ -9,6 +9,10 @@ use Rattle.lists.specs.Bytes.{Bytes}
 
 pub no-bytes : Bytes []
 no-bytes i = omega arith
+
+pub cons-bytes : (b : ℕ) (s : List ℕ) → b < 256 → Bytes s → Bytes (b ∷ s)
+cons-bytes b s l h zero = l
+cons-bytes b s l h (suc i) = h i
 
 pub tail-bytes : (b : ℕ) (s : List ℕ) → Bytes (b ∷ s) → Bytes s
 tail-bytes b s h i = h (suc i)
