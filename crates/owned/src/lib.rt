@@ -6,7 +6,6 @@
 use encoder::changes;
 use encoder::finish;
 use encoder::raw;
-use encoder::raw::RawValue;
 use encoder::start;
 use encoder::time;
 use plan::Outcome;
@@ -86,8 +85,8 @@ pub fn vcd_value_change<'t, 'w, 'i, 'b>(
     keep(outcome, records)
 }
 
-// A raw value of a signal: the class that it claims, its width and its bytes.
-pub fn raw_value_change<'t, 'w, 'i, 'b>(
+// A raw value of a signal, by the class that it claims and its bytes.
+pub fn raw_class_change<'t, 'w, 'i, 'b>(
     state: Encoder,
     kept: [SignalRecord; 2],
     times: &'t [u64],
@@ -95,19 +94,22 @@ pub fn raw_value_change<'t, 'w, 'i, 'b>(
     image: &'i [u8],
     signal: SignalRef,
     claim: States,
-    width: u32,
     bytes: &'b [u8],
 ) -> Kept
     ensures { λ r. ⌜ after (replyOf (r .outcome .answer)) (memory (r .outcome .state) (r .records) (now (times .entry)) (now (work .exit)) (now (image .entry)))
         ≡ changeOf (memory state kept (now (times .entry)) (now (work .entry)) (now (image .entry))) (signal .0) (raw (classNumber claim) (now (bytes .entry))) ⌝ }
 {
     let mut records = kept;
-    let value = RawValue {
+    let outcome = raw::raw_class_change(
+        state,
+        &mut records,
+        times,
+        work,
+        image,
+        signal,
         claim,
-        width,
         bytes,
-    };
-    let outcome = raw::raw_value_change(state, &mut records, times, work, image, signal, value);
+    );
     keep(outcome, records)
 }
 

@@ -79,7 +79,7 @@ pub fn vcd(
     told(kept, &*image)
 }
 
-// A raw value of class Two by its struct.
+// A raw value that claims class Two.
 pub fn raw(
     d: Device,
     g: u32,
@@ -92,7 +92,7 @@ pub fn raw(
     let records = d.records;
     let signal = SignalRef(g);
     let claim = States::Two;
-    let kept = owned::raw_value_change(state, records, &*times, work, &*image, signal, claim, 4, v);
+    let kept = owned::raw_class_change(state, records, &*times, work, &*image, signal, claim, v);
     told(kept, &*image)
 }
 
