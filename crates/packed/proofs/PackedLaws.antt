@@ -190,7 +190,7 @@ packed-top c s a k =
     rw (number-packed c s h) (lt-ltb _ _ (number-lt (bitsOf c) s h))
 
 -- packing what was unpacked takes the bits above the symbols away
-packed-number : (w c : ℕ) (b : List ℕ) → packed c (unpacked w c b) ≡ digits 8 (packedLength w c) (numberOf 8 b % 2 ^ (w * bitsOf c))
+pub packed-number : (w c : ℕ) (b : List ℕ) → packed c (unpacked w c b) ≡ digits 8 (packedLength w c) (numberOf 8 b % 2 ^ (w * bitsOf c))
 unfolding packed unpacked
 packed-number w c b = rw (length-digits (bitsOf c) w (numberOf 8 b), number-digits (bitsOf c) w (numberOf 8 b)) refl
 

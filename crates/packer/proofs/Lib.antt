@@ -1,2 +1,4 @@
 pub mod PackLaws
 pub mod NotationLaws
+pub mod LetterLaws
+pub mod CopyLaws

@@ -1,159 +1,122 @@
--- The packing loop by one symbol: the bytes still to come, from the working bits and the symbols that are left.
+-- A packed byte, by the symbols that lie in it: taken one after the other from the left, each is one more digit at the right.
 -- Assumes nothing.
-use Prim.Native.Nat.{ℕ, suc, _+_, _-_, _*_, _%_, _^_, _≤_, _<_}
-use mathlib.Core.Path.{_≡_, refl, sym, ap, ap₂, _∙_, subst}
-use mathlib.Core.List.{List, [], _∷_}
-use native.Mathlib.Nat.{lt-of-le-of-lt, lt-of-lt-of-le, zero-mul, zero-add}
+use Prim.Native.Nat.{ℕ, zero, suc, _+_, _-_, _*_, _/_, _^_, _≤_, _<_}
+use mathlib.Core.Path.{_≡_, refl, sym, ap, ap₂, _∙_}
+use mathlib.Core.List.{List}
+use native.Mathlib.Nat.{sub-self, zero-mul, mod-lt, mod-one, zero-mod, div-eq-of-lt, mul-le-mul-right, lt-of-lt-of-le}
+use native.Mathlib.Numerals.{add-one}
 use native.Mathlib.Omega.{arith}
-use lib.ListN.{length, getD, drop, length-drop}
-use lib.Pow.{pow-mono, shl-shr, shr-lt, shr-mono}
-use lib.Seq.{drop-cons, getD-drop}
+use lib.ListN.{length, set, length-set}
+use lib.Seq.{sets}
+use lib.Pow.{pow-pos, pow-mono, mod-pow-add, shr-shr}
 use Rattle.value.specs.Class.{bitsOf}
-use Rattle.packed.specs.Packed.{numberOf, digits, packedLength, packed}
-use Rattle.packed.proofs.PackedLaws.{AllBelow, number-lt, push-keep, push-byte, length-full, length-part, room-of}
+use Rattle.packed.specs.Packed.{packedLength, digitAt, digits}
+use Rattle.packer.specs.Number.{perByte, symbolsAt}
 
--- working bits and what is left, as one number
-unfoldable pub whole : (c working : ℕ) → List ℕ → ℕ
-whole c a l = a * 2 ^ (length l * bitsOf c) + numberOf (bitsOf c) l
+-- the symbols of m bytes take 8 m bits
+pub byte-bits : (c m : ℕ) → m * perByte c * bitsOf c ≡ m * 8
+byte-bits zero m = omega arith
+byte-bits (suc zero) m = omega arith
+byte-bits (suc (suc c)) m = omega arith
 
-unfoldable pub toCome : (c working : ℕ) → List ℕ → List ℕ
-unfolding whole
-toCome c a l = digits 8 (packedLength (length l) c) (whole c a l)
+pub full-bits : (c : ℕ) → perByte c * bitsOf c ≡ 8
+full-bits c = omega (arith, byte-bits c 1)
 
--- the bytes to come have room for it
-unfoldable pub Fits : (c working : ℕ) → List ℕ → Type 0
-unfolding whole
-Fits c a l = whole c a l < 2 ^ (packedLength (length l) c * 8)
+-- a byte of a packed value has a symbol
+pub byte-in : (w c m : ℕ) → m < packedLength w c → m * perByte c < w
+byte-in w zero m h = omega arith
+byte-in w (suc zero) m h = omega arith
+byte-in w (suc (suc c)) m h = omega arith
 
-whole-none : (c : ℕ) (l : List ℕ) → whole c 0 l ≡ numberOf (bitsOf c) l
-unfolding whole
-whole-none c l = rw (zero-mul, zero-add) refl
+-- bytes are fewer than their symbols
+pub bytes-few : (c n : ℕ) → n ≤ n * perByte c
+bytes-few zero n = omega arith
+bytes-few (suc zero) n = omega arith
+bytes-few (suc (suc c)) n = omega arith
 
-pub come-first : (c : ℕ) (s : List ℕ) → toCome c 0 s ≡ packed c s
-unfolding toCome packed
-come-first c s = ap (digits 8 (packedLength (length s) c)) (whole-none c s)
+-- the whole bytes of x symbols, of the w that are packed
+pub some-per-byte : (c : ℕ) → 0 < perByte c
+some-per-byte c = omega (arith, bytes-few c 1)
 
-pub come-last : (c a : ℕ) → toCome c a [] ≡ []
-unfolding toCome digits
-come-last c a = rw (zero-mul (bitsOf c)) refl
+pub whole-in : (c x w : ℕ) → x ≤ w → (x / perByte c * perByte c ≤ x) × (x / perByte c ≤ packedLength w c)
+whole-in zero x w h = (omega arith, omega arith)
+whole-in (suc zero) x w h = (omega arith, omega arith)
+whole-in (suc (suc c)) x w h = (omega arith, omega arith)
 
-pub fits-first : (c : ℕ) (s : List ℕ) → AllBelow (2 ^ bitsOf c) s → Fits c 0 s
-unfolding Fits
-fits-first c s h =
-    let r = room-of (length s) c in
-    let k : length s * bitsOf c ≤ packedLength (length s) c * 8 = omega (arith, r .1) in
-    rw (whole-none c s) (lt-of-lt-of-le (number-lt (bitsOf c) s h) (pow-mono k))
+-- a byte before the end of n has room with them
+pub byte-room : (k m : ℕ) {n left : ℕ} → 0 < left → left ≤ n → n * k ≤ m → (left - 1) * k + k ≤ m
+byte-room k m {n} {left} h i r =
+    let e : left ≡ suc (left - 1) = omega arith in
+    let f : suc (left - 1) * k ≤ n * k = mul-le-mul-right k (rw e at i) in
+    omega arith
 
--- the working bits are a byte
-pub fits-byte : (c a : ℕ) (l : List ℕ) → Fits c a l → a < 256
-unfolding Fits whole
-fits-byte c a l h =
-    let k : ℕ = length l * bitsOf c in
-    let r = room-of (length l) c in
-    let m : packedLength (length l) c * 8 ≤ 8 + k = omega (arith, r .0) in
-    let below : whole c a l < 2 ^ (8 + k) = lt-of-lt-of-le h (pow-mono m) in
-    let up : a * 2 ^ k ≤ whole c a l = unfold whole in omega arith in
-    rw (shl-shr a k) at (lt-of-le-of-lt (shr-mono k up) (shr-lt 8 k below))
+-- ---- the loops that take symbols of a number: count of them with `after` behind, and i are left
 
-whole-next : (c a x : ℕ) (l : List ℕ) → whole c a (x ∷ l) ≡ whole c (a * 2 ^ bitsOf c + x) l
-unfolding whole
-whole-next c a x l = push-keep (bitsOf c) a x l
+-- working holds those taken
+abbrev pub Taken : (b after count v i working : ℕ) → Type 0
+Taken b after count v i working = (i ≤ count) × (working ≡ symbolsAt b (after + i) (count - i) v)
 
--- a symbol that fills no byte
-part : (c a x : ℕ) (l : List ℕ) → (length l * bitsOf c % 8 ≡ 0 → ⊥) → Fits c a (x ∷ l)
-    → Fits c (a * 2 ^ bitsOf c + x) l × (toCome c a (x ∷ l) ≡ toCome c (a * 2 ^ bitsOf c + x) l)
-unfolding Fits toCome
-part c a x l h f =
-    let n : packedLength (suc (length l)) c ≡ packedLength (length l) c = length-part (length l) c h in
-    let e = whole-next c a x l in
-    (subst (λ (v : ℕ). v < 2 ^ (packedLength (length l) c * 8)) e (subst (λ (k : ℕ). whole c a (x ∷ l) < 2 ^ (k * 8)) n f), ap₂ (digits 8) n e)
+module _ (b after count v : ℕ) where
+  pub taken-none : Taken b after count v count 0
+  taken-none = (omega arith, rw (sub-self count, zero-mul b) (sym (mod-one (v / 2 ^ ((after + count) * b)))))
 
--- the highest byte of a number that has room in one byte more
-high-byte : (n y rest : ℕ) → y * 2 ^ (n * 8) + rest < 2 ^ (suc n * 8) → y < 256
-high-byte n y rest h =
-    let e : suc n * 8 ≡ 8 + n * 8 = omega arith in
-    let up : y * 2 ^ (n * 8) ≤ y * 2 ^ (n * 8) + rest = omega arith in
-    rw (shl-shr y (n * 8)) at (lt-of-le-of-lt (shr-mono (n * 8) up) (shr-lt 8 (n * 8) (rw e at h)))
+  -- the places above the number have none
+  pub taken-above : (i : ℕ) {w : ℕ} → i ≤ count → after + i ≡ w → v < 2 ^ (w * b) → Taken b after count v i 0
+  taken-above i h e k = (h, rw (e, div-eq-of-lt k) (sym (zero-mod (2 ^ ((count - i) * b)))))
 
-whole-full : (c a x : ℕ) (l : List ℕ) (n : ℕ) → length l * bitsOf c ≡ n * 8
-    → whole c a (x ∷ l) ≡ (a * 2 ^ bitsOf c + x) * 2 ^ (n * 8) + numberOf (bitsOf c) l
-unfolding whole
-whole-full c a x l n w = push-keep (bitsOf c) a x l ∙ ap (λ (m : ℕ). (a * 2 ^ bitsOf c + x) * 2 ^ m + numberOf (bitsOf c) l) w
+  one-more : (i n : ℕ) → symbolsAt b (suc i) n v * 2 ^ b + digitAt b i v ≡ symbolsAt b i (suc n) v
+  one-more i n =
+      let e : suc n * b ≡ n * b + b = omega arith in
+      let f : suc i * b ≡ i * b + b = omega arith in
+      rw (e, f, mod-pow-add (v / 2 ^ (i * b)) (n * b) b, shr-shr v (i * b) b) refl
 
--- a symbol that fills a byte
-full : (c a x : ℕ) (l : List ℕ) → AllBelow (2 ^ bitsOf c) l → length l * bitsOf c % 8 ≡ 0 → Fits c a (x ∷ l)
-    → (a * 2 ^ bitsOf c + x < 256) × Fits c 0 l × (toCome c a (x ∷ l) ≡ (a * 2 ^ bitsOf c + x) ∷ toCome c 0 l)
-unfolding toCome Fits
-full c a x l below h f =
-    let n : ℕ = packedLength (length l) c in
-    let k : packedLength (suc (length l)) c ≡ suc n = length-full (length l) c h in
-    let r = room-of (length l) c in
-    let w : length l * bitsOf c ≡ n * 8 = omega (arith, r .0, r .1) in
-    let y : ℕ = a * 2 ^ bitsOf c + x in
-    let rest : ℕ = numberOf (bitsOf c) l in
-    let e : whole c a (x ∷ l) ≡ y * 2 ^ (n * 8) + rest = whole-full c a x l n w in
-    let small : rest < 2 ^ (n * 8) = subst (λ (m : ℕ). rest < 2 ^ m) w (number-lt (bitsOf c) l below) in
-    let top : y * 2 ^ (n * 8) + rest < 2 ^ (suc n * 8) = subst (λ (v : ℕ). v < 2 ^ (suc n * 8)) e (subst (λ (m : ℕ). whole c a (x ∷ l) < 2 ^ (m * 8)) k f) in
-    let byte : y < 256 = high-byte n y rest top in
-    (byte, rw (whole-none c l) small, ap₂ (digits 8) k e ∙ push-byte n y rest byte small ∙ ap (λ (v : ℕ). y ∷ digits 8 n v) (sym (whole-none c l)))
+  pub taken-more : (i : ℕ) {working symbol next : ℕ} → 0 < i → Taken b after count v i working
+      → symbol ≡ digitAt b (after + (i - 1)) v → next ≡ working * 2 ^ b + symbol → Taken b after count v (i - 1) next
+  taken-more i h t d r =
+      let e : after + i ≡ suc (after + (i - 1)) = omega arith in
+      let f : suc (count - i) ≡ count - (i - 1) = omega arith in (
+        omega arith,
+        r
+            ∙ ap₂ (λ (x y : ℕ). x * 2 ^ b + y) (t .1 ∙ ap (λ (m : ℕ). symbolsAt b m (count - i) v) e) d
+            ∙ one-more (after + (i - 1)) (count - i)
+            ∙ ap (λ (n : ℕ). symbolsAt b (after + (i - 1)) n v) f,
+      )
 
--- at a place of the symbols
-below-drop : (m i : ℕ) (s : List ℕ) → AllBelow m s → AllBelow m (drop i s)
-below-drop m i s h j = rw getD-drop (h (i + j))
+  -- they fit a byte
+  pub taken-small : {i working : ℕ} → count * b ≤ 8 → Taken b after count v i working → working < 256
+  taken-small {i} h t =
+      let n : count - i ≤ count = omega arith in
+      let j : (count - i) * b ≤ 8 = omega (arith, mul-le-mul-right b n) in
+      rw (t .1) (lt-of-lt-of-le (mod-lt (v / 2 ^ ((after + i) * b)) (pow-pos ((count - i) * b))) (pow-mono j))
 
-pub turn-part : (c : ℕ) (s : List ℕ) (i a : ℕ) → i < length s → (length (drop (suc i) s) * bitsOf c % 8 ≡ 0 → ⊥) → Fits c a (drop i s)
-    → Fits c (a * 2 ^ bitsOf c + getD s i 0) (drop (suc i) s) × (toCome c a (drop i s) ≡ toCome c (a * 2 ^ bitsOf c + getD s i 0) (drop (suc i) s))
-turn-part c s i a h p f = rw (drop-cons s i 0 h) (part c a (getD s i 0) (drop (suc i) s) p (rw (drop-cons s i 0 h) at f))
+  pub taken-all : {i working : ℕ} → i ≤ 0 → Taken b after count v i working → working ≡ symbolsAt b after count v
+  taken-all {i} h t =
+      let e : after + i ≡ after = omega arith in
+      let f : count - i ≡ count = omega arith in
+      rw (e, f) at (t .1)
 
-pub turn-full : (c : ℕ) (s : List ℕ) (i a : ℕ) → i < length s → AllBelow (2 ^ bitsOf c) s → length (drop (suc i) s) * bitsOf c % 8 ≡ 0 → Fits c a (drop i s)
-    → (a * 2 ^ bitsOf c + getD s i 0 < 256) × Fits c 0 (drop (suc i) s)
-    × (toCome c a (drop i s) ≡ (a * 2 ^ bitsOf c + getD s i 0) ∷ toCome c 0 (drop (suc i) s))
-turn-full c s i a h below p f =
-    rw (drop-cons s i 0 h) (full c a (getD s i 0) (drop (suc i) s) (below-drop (2 ^ bitsOf c) (suc i) s below) p (rw (drop-cons s i 0 h) at f))
+-- and are one where they fill it
+pub taken-byte : (c m v : ℕ) → symbolsAt (bitsOf c) (m * perByte c) (perByte c) v ≡ digitAt 8 m v
+taken-byte c m v = rw (byte-bits c m, full-bits c) refl
 
--- a turn of the loop with `left` of w symbols to come, where the working bits a become y: it fills a byte, or it does not
-pub record FullTurn (c : ℕ) (s : List ℕ) (w left a y : ℕ) : Type 0 where
-  pub byte : y < 256
-  pub bytes : packedLength left c ≡ suc (packedLength (left - 1) c)
-  pub fits : Fits c 0 (drop (w - (left - 1)) s)
-  pub come : toCome c a (drop (w - left) s) ≡ y ∷ toCome c 0 (drop (w - (left - 1)) s)
+-- ---- the loops that write bytes of a number, n of them from `at` on, and `left` are left
 
-pub record PartTurn (c : ℕ) (s : List ℕ) (w left a y : ℕ) : Type 0 where
-  pub byte : y < 256
-  pub bytes : packedLength left c ≡ packedLength (left - 1) c
-  pub fits : Fits c y (drop (w - (left - 1)) s)
-  pub come : toCome c a (drop (w - left) s) ≡ toCome c y (drop (w - (left - 1)) s)
+-- what is still to be written, written, gives the final buffer
+abbrev pub Written : (v : ℕ) → List ℕ → (at n : ℕ) → List ℕ → (o left : ℕ) → Type 0
+Written v l at n out o left = (left ≤ n) × (length out ≡ length l) × (o + left ≡ at + n) × (sets out o (digits 8 left v) ≡ sets l at (digits 8 n v))
 
-module _ (c : ℕ) (s : List ℕ) (w left a y : ℕ) (size : length s ≡ w) (any : 0 < left) (inside : left ≤ w) (next : y ≡ a * 2 ^ bitsOf c + getD s (w - left) 0) where
-  place : suc (w - left) ≡ w - (left - 1)
-  place = omega arith
+module _ (v : ℕ) (l : List ℕ) (at n : ℕ) where
+  pub written-none : Written v l at n l at n
+  written-none = (omega arith, refl, refl, refl)
 
-  after : length (drop (suc (w - left)) s) ≡ left - 1
-  after = length-drop (suc (w - left)) s ∙ (let e : length s - suc (w - left) ≡ left - 1 = omega arith in e)
+  pub written-more : (out : List ℕ) (o left : ℕ) {y : ℕ} → 0 < left → Written v l at n out o left → y ≡ digitAt 8 (left - 1) v
+      → Written v l at n (set out o y) (o + 1) (left - 1)
+  unfolding digits
+  written-more out o left {y} h w d =
+      let e : left ≡ suc (left - 1) = omega arith in
+      let step : sets out o (digits 8 left v) ≡ sets (set out o (digitAt 8 (left - 1) v)) (suc o) (digits 8 (left - 1) v) = ap (λ (m : ℕ). sets out o (digits 8 m v)) e in
+      (omega arith, simp length-set (w .1), omega arith, rw (add-one o, d) (sym step ∙ w .3))
 
-  more : suc (left - 1) ≡ left
-  more = omega arith
-
-  pub full-turn : AllBelow (2 ^ bitsOf c) s → (left - 1) * bitsOf c % 8 ≡ 0 → Fits c a (drop (w - left) s) → FullTurn c s w left a y
-  full-turn below h f =
-      let t = turn-full c s (w - left) a (omega arith) below (rw after h) f in
-      record {
-        byte = rw next (t .0);
-        bytes = ap (λ (n : ℕ). packedLength n c) (sym more) ∙ length-full (left - 1) c h;
-        fits = subst (λ (i : ℕ). Fits c 0 (drop i s)) place (t .1);
-        come = t .2 ∙ ap₂ (λ (z i : ℕ). z ∷ toCome c 0 (drop i s)) (sym next) place;
-      }
-
-  pub part-turn : ((left - 1) * bitsOf c % 8 ≡ 0 → ⊥) → Fits c a (drop (w - left) s) → PartTurn c s w left a y
-  part-turn h f =
-      let t = turn-part c s (w - left) a (omega arith) (λ e. h (rw after at e)) f in
-      let g : Fits c y (drop (w - (left - 1)) s) = subst (λ (i : ℕ). Fits c y (drop i s)) place (subst (λ (z : ℕ). Fits c z (drop (suc (w - left)) s)) (sym next) (t .0)) in
-      record {
-        byte = fits-byte c y (drop (w - (left - 1)) s) g;
-        bytes = ap (λ (n : ℕ). packedLength n c) (sym more) ∙ length-part (left - 1) c h;
-        fits = g;
-        come = t .1 ∙ ap₂ (λ (z i : ℕ). toCome c z (drop i s)) (sym next) place;
-      }
-
-pub no-bytes : (c : ℕ) → packedLength 0 c ≡ 0
-no-bytes c = rw (zero-mul (bitsOf c)) refl
+  pub written-all : (out : List ℕ) (o : ℕ) {left : ℕ} → left ≤ 0 → Written v l at n out o left → (o ≡ at + n) × (out ≡ sets l at (digits 8 n v))
+  unfolding digits
+  written-all out o {left} h w = let e : left ≡ 0 = omega arith in (omega arith, rw e at (w .3))

@@ -1,160 +1,137 @@
--- What is still to be written, written, gives the final buffer: the bytes to come of the working bits and the symbols that are left.
-use Prim.Native.Nat.{ℕ, _+_, _-_, _*_, _^_, _≤_}
-use mathlib.Core.Path.{_≡_, refl, ap, _∙_}
-use mathlib.Core.List.{List, []}
-use native.Mathlib.Nat.{mul-le-mul-left}
-use native.Mathlib.Numerals.{add-one}
+-- A source in the class is copied; of another the bytes before the whole ones are written, and then those.
+use Prim.Native.Nat.{ℕ, _*_, _/_, _≤_}
+use mathlib.Core.Path.{_≡_, sym, ap, _∙_}
 use native.Mathlib.Omega.{arith}
-use lib.ListN.{length, getD, drop, length-set, drop-of-length-le}
+use lib.ListN.{length}
 use lib.Seq.{sets}
-use Rattle.value.specs.Class.{classNumber, bitsOf}
-use Rattle.packed.specs.Packed.{packedLength, packed}
-use Rattle.packed.proofs.PackedLaws.{symbols-below}
+use Rattle.value.specs.Class.{classNumber}
+use Rattle.packed.specs.Packed.{digits, packedLength, packed, unpacked}
 use Rattle.packer.specs.Notation.{symbolsFrom}
-use Rattle.packer.proofs.PackLaws.{Fits, toCome, come-first, come-last, fits-first, fits-byte, FullTurn, full-turn, PartTurn, part-turn, no-bytes}
-use Rattle.packer.proofs.NotationLaws.{length-from}
+use Rattle.packer.specs.Number.{perByte, numberIn, Held, standingIn}
+use Rattle.packer.proofs.PackLaws.{some-per-byte, whole-in}
+use Rattle.packer.proofs.NotationLaws.{same-class, standing-in, packed-digits}
+use borrow.Author.Needs.{needs}
 use Rattle.packer.proofs.pack.Statement.{statement}
 use Rattle.packer.proofs.pack.Tie as tie
 
-abbrev Inv-loop : tie.InvT-loop
-Inv-loop out₀ at src notation width states bits o₀ working₀ left₀ out o working left =
-    (left ≤ width)
-    × (length out ≡ length out₀)
-    × (o + packedLength left (classNumber states) ≡ at + packedLength width (classNumber states))
-    × Fits (classNumber states) working (drop (width - left) (symbolsFrom notation width src))
-    × (sets out o (toCome (classNumber states) working (drop (width - left) (symbolsFrom notation width src))) ≡ sets out₀ at (packed (classNumber states) (symbolsFrom notation width src)))
+held : (c : tie.Start) → let a = c .args in Held (a .notation) (a .width) (classNumber (a .states)) (a .src .now)
+held c = (c .pre .0, c .pre .1 .0 .0, c .pre .1 .0 .1)
 
-abbrev μ-loop : tie.MeasureT-loop
-μ-loop out₀ at src notation width states bits o₀ working₀ left₀ out o working left = left
+-- the source is in the class
+same : (c : tie.Then1) → let a = c .before .before .before .before .args in
+    (packedLength (a .width) (classNumber (a .states)) ≤ length (a .src .now))
+    × (symbolsFrom (a .notation) (a .width) (a .src .now) ≡ unpacked (a .width) (classNumber (a .states)) (a .src .now))
+same c =
+    let s = c .before .before .before .before in
+    let a = s .args in
+    same-class (a .notation) (a .width) (classNumber (a .states)) (a .src .now) (s .pre .0) (sym (c .before .in-class .ensures) ∙ c .if1 .taken)
 
--- the working bits after a symbol
-next : (c : tie.After-pushed Inv-loop μ-loop) →
-    let b = c .before .before .before in let a = b .before .before .before .before .args in
-    c .pushed .result ≡ b .loop .working * 2 ^ bitsOf (classNumber (a .states)) + getD (symbolsFrom (a .notation) (a .width) (a .src .now)) (a .width - b .loop .left) 0
-next c = c .pushed .ensures ∙ rw (c .before .symbol-at .ensures) refl
+-- the whole bytes lie within what stands in the source, and within what is written
+whole : (c : tie.After-per-byte) → let a = c .before .before .before .before .before .before .args in
+    let n : ℕ = c .before .standing .result / c .per-byte .result in
+    (n * perByte (classNumber (a .states)) ≤ standingIn (a .notation) (a .width) (a .src .now)) × (n ≤ packedLength (a .width) (classNumber (a .states)))
+whole c =
+    let s = c .before .before .before .before .before .before in
+    let a = s .args in
+    rw (c .before .standing .ensures, c .per-byte .ensures)
+    (whole-in (classNumber (a .states)) (standingIn (a .notation) (a .width) (a .src .now)) (a .width) (standing-in (a .notation) (a .width) (a .src .now) (s .pre .0)))
 
--- a turn that fills a byte, and one that does not
-full : (c : tie.Then1 Inv-loop μ-loop) →
-    let b = c .before .before .before .before in let l = b .loop in let a = b .before .before .before .before .args in
-    FullTurn (classNumber (a .states)) (symbolsFrom (a .notation) (a .width) (a .src .now)) (a .width) (l .left) (l .working) (c .before .pushed .result)
-full c =
-    let b = c .before .before .before .before in
-    let p = b .before .before .before .before in
-    let a = p .args in
-    let k : ℕ = classNumber (a .states) in
-    let s : List ℕ = symbolsFrom (a .notation) (a .width) (a .src .now) in
-    full-turn k s (a .width) (b .loop .left) (b .loop .working) (c .before .pushed .result)
-    (length-from (a .notation) (a .width) (a .src .now) (p .pre .0)) (omega arith) (omega arith) (next (c .before))
-    (symbols-below k s (p .pre .1 .0 .0) (p .pre .1 .0 .1)) (rw (b .before .bits .ensures .0) at (c .if1 .taken)) (b .loop .inv .3)
+-- the whole bytes, written, give the final buffer
+written : (c : tie.After-part-bytes) → let r = c .before .before in let a = r .before .before .before .before .before .before .args in
+    sets (c .part-bytes .last .0) (c .part-bytes .result) (digits 8 (r .before .standing .result / r .per-byte .result) (numberIn (classNumber (a .states)) (a .notation) (a .width) (a .src .now)))
+    ≡ sets (a .out .now) (a .at) (packed (classNumber (a .states)) (symbolsFrom (a .notation) (a .width) (a .src .now)))
+written c =
+    let s = c .before .before .before .before .before .before .before .before in
+    let a = s .args in
+    c .part-bytes .ensures .1 ∙ ap (sets (a .out .now) (a .at)) (sym (packed-digits (a .notation) (a .width) (classNumber (a .states)) (a .src .now) (s .pre .0)))
 
-part : (c : tie.Else1 Inv-loop μ-loop) →
-    let b = c .before .before .before .before in let l = b .loop in let a = b .before .before .before .before .args in
-    PartTurn (classNumber (a .states)) (symbolsFrom (a .notation) (a .width) (a .src .now)) (a .width) (l .left) (l .working) (c .before .pushed .result)
-part c =
-    let b = c .before .before .before .before in
-    let p = b .before .before .before .before in
-    let a = p .args in
-    let k : ℕ = classNumber (a .states) in
-    let s : List ℕ = symbolsFrom (a .notation) (a .width) (a .src .now) in
-    part-turn k s (a .width) (b .loop .left) (b .loop .working) (c .before .pushed .result)
-    (length-from (a .notation) (a .width) (a .src .now) (p .pre .0)) (omega arith) (omega arith) (next (c .before))
-    (λ e. c .if1 .left (rw (b .before .bits .ensures .0) e)) (b .loop .inv .3)
+in-class-requires : tie.Need-in-class-requires
+in-class-requires c κs = search needs
 
-bits-requires : tie.Need-bits-requires Inv-loop μ-loop
-bits-requires c κs = tt
+copied-requires : tie.Need-copied-requires
+copied-requires c κs = (same (c .before) .0, c .before .before .before .before .before .pre .1 .1)
 
-loop-holds : tie.Need-loop-holds Inv-loop μ-loop
-loop-holds c =
-    let a = c .before .before .before .args in
-    let p = c .before .before .before .pre in
-    let k : ℕ = classNumber (a .states) in
-    let s : List ℕ = symbolsFrom (a .notation) (a .width) (a .src .now) in
-    let none : a .width - a .width ≡ 0 = omega arith in
-    (omega arith, refl, refl, rw none (fits-first k s (symbols-below k s (p .1 .0 .0) (p .1 .0 .1))), rw (none, come-first k s) refl)
+same-length : tie.Need-same-length
+same-length c = search needs
 
-sub-symbol-at : tie.Need-sub-symbol-at Inv-loop μ-loop
-sub-symbol-at c = omega arith
+returns : tie.Need-returns
+returns c = let p = c .before .before in (p .copied .ensures .0, rw (same (p .before .before) .1) (p .copied .ensures .1))
 
-symbol-at-requires : tie.Need-symbol-at-requires Inv-loop μ-loop
-symbol-at-requires c κs = (c .before .before .before .before .before .pre .0, omega arith)
+standing-requires : tie.Need-standing-requires
+standing-requires c κs = search needs
 
-sub-left : tie.Need-sub-left Inv-loop μ-loop
-sub-left c = omega arith
+per-byte-requires : tie.Need-per-byte-requires
+per-byte-requires c κs = search needs
 
-pushed-requires : tie.Need-pushed-requires Inv-loop μ-loop
-pushed-requires c κs = fits-byte _ _ _ (c .before .before .loop .inv .3)
+div-whole : tie.Need-div-whole
+div-whole c = rw (c .per-byte .ensures) (some-per-byte (classNumber (c .before .before .before .before .before .before .args .states)))
 
-cast-if1 : tie.Need-cast-if1 Inv-loop μ-loop
-cast-if1 c = omega arith
+part-bytes-requires : tie.Need-part-bytes-requires
+part-bytes-requires c κs =
+    let s = c .before .before .before .before .before .before .before in
+    (held s, (whole (c .before) .1, s .pre .1 .1))
 
-mul-if1 : tie.Need-mul-if1 Inv-loop μ-loop
-mul-if1 c =
-    let l = c .before .before .before .loop .left in
-    omega (arith, mul-le-mul-left (l - 1) (c .before .before .before .before .bits .ensures .1))
+enum-told : tie.Need-enum-told
+enum-told c = search needs
 
-cast-out : tie.Need-cast-out Inv-loop μ-loop
-cast-out c = let t = full c in record { fits = t .byte }
+text-bytes-requires : tie.Need-text-bytes-requires
+text-bytes-requires c κs =
+    let p = c .before in
+    let r = p .before .before .before .before .before .before in
+    let s = r .before .before .before .before .before .before in
+    let h = rw (p .enum-told .given .1) at (held s) in
+    let l = rw (p .enum-told .given .1) at (whole r .0) in
+    (h, (l, omega arith))
 
-slice-write-out : tie.Need-slice-write-out Inv-loop μ-loop
-slice-write-out c = omega (arith, full c .bytes)
+enum-known-notation : tie.Need-enum-known-notation
+enum-known-notation c = search needs
 
-add-o : tie.Need-add-o Inv-loop μ-loop
-add-o c = omega (arith, full c .bytes)
+packed-bytes-requires : tie.Need-packed-bytes-requires
+packed-bytes-requires c κs =
+    let p = c .before .before in
+    let r = p .before .before .before .before .before .before in
+    let s = r .before .before .before .before .before .before in
+    let h = rw (p .notation .given .1) at (held s) in
+    let l = rw (p .notation .given .1) at (whole r .0) in
+    (h, (l, omega arith))
 
-loop-less : tie.Need-loop-less Inv-loop μ-loop
-loop-less c = omega arith
+same-length-2 : tie.Need-same-length-2
+same-length-2 c = search needs
 
-loop-again : tie.Need-loop-again Inv-loop μ-loop
-loop-again c =
-    let l = c .before .before .before .before .loop in
-    let t = full c in
-    (omega arith, simp length-set (l .inv .1), omega (arith, t .bytes), t .fits, rw (add-one (l .o), ← (l .inv .4), t .come) refl)
+returns-2 : tie.Need-returns-2
+returns-2 c =
+    let p = c .before .before in
+    let e = p .before .before in
+    let q = e .before .before .before .before in
+    (omega arith, rw (e .enum-told .given .1) (p .text-bytes .ensures .1 ∙ rw (e .enum-told .given .1) at (written q)))
 
-loop-less-2 : tie.Need-loop-less-2 Inv-loop μ-loop
-loop-less-2 c = omega arith
+same-length-3 : tie.Need-same-length-3
+same-length-3 c = search needs
 
-loop-again-2 : tie.Need-loop-again-2 Inv-loop μ-loop
-loop-again-2 c =
-    let l = c .before .before .before .before .loop in
-    let t = part c in
-    (omega arith, l .inv .1, omega (arith, t .bytes), t .fits, rw (← (l .inv .4), t .come) refl)
-
-same-length : tie.Need-same-length Inv-loop μ-loop
-same-length c = c .before .loop .inv .1
-
-returns : tie.Need-returns Inv-loop μ-loop
-returns c =
-    let l = c .before .loop in
-    let a = c .before .before .before .before .before .args in
-    let p = c .before .before .before .before .before .pre in
-    let k : ℕ = classNumber (a .states) in
-    let s : List ℕ = symbolsFrom (a .notation) (a .width) (a .src .now) in
-    let none : l .left ≡ 0 = omega arith in
-    let size : length s ≡ a .width = length-from (a .notation) (a .width) (a .src .now) (p .0) in
-    let rest : drop (a .width - l .left) s ≡ [] = drop-of-length-le s {i = a .width - l .left} (omega arith) in
-    let done : toCome k (l .working) (drop (a .width - l .left) s) ≡ [] = rw rest (come-last k (l .working)) in
-    (omega (arith, l .inv .2, ap (λ (n : ℕ). packedLength n k) none, no-bytes k), rw (← (l .inv .4), done) refl)
+returns-3 : tie.Need-returns-3
+returns-3 c =
+    let p = c .before .before in
+    let e = p .before .before .before in
+    let q = e .before .before .before .before in
+    (omega arith, rw (e .notation .given .1) (p .packed-bytes .ensures .1 ∙ rw (e .notation .given .1) at (written q)))
 
 pub pack-spec : {M : Type 1} → statement M
 pack-spec =
     tie.close
     (tie.spec
-    Inv-loop
-    μ-loop
-    bits-requires
-    loop-holds
-    sub-symbol-at
-    symbol-at-requires
-    sub-left
-    pushed-requires
-    cast-if1
-    mul-if1
-    cast-out
-    slice-write-out
-    add-o
-    loop-less
-    loop-again
-    loop-less-2
-    loop-again-2
+    in-class-requires
+    copied-requires
     same-length
-    returns)
+    returns
+    standing-requires
+    per-byte-requires
+    div-whole
+    part-bytes-requires
+    enum-told
+    text-bytes-requires
+    enum-known-notation
+    packed-bytes-requires
+    same-length-2
+    returns-2
+    same-length-3
+    returns-3)

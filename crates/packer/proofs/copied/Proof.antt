@@ -1,0 +1,102 @@
+-- The bytes of the source, of which the first loses the bits above the symbols.
+use Prim.Native.Nat.{_*_, _%_, _<_}
+use mathlib.Core.Path.{_≡_, refl, ap, _∙_}
+use native.Mathlib.Nat.{mul-le-mul-left}
+use native.Mathlib.Numerals.{add-one}
+use native.Mathlib.Omega.{arith}
+use lib.ListN.{length, length-set}
+use lib.Seq.{length-sets}
+use Rattle.value.specs.Class.{classNumber, bitsOf}
+use Rattle.packed.specs.Packed.{packedLength}
+use Rattle.packer.proofs.CopyLaws.{copy-full, copy-part}
+use borrow.Author.Needs.{needs}
+use Rattle.packer.proofs.copied.Statement.{statement}
+use Rattle.packer.proofs.copied.Tie as tie
+
+-- the first byte is there, and has bits above the symbols
+part : (c : tie.Else1) → let a = c .before .before .before .before .before .args in
+    (0 < packedLength (a .width) (classNumber (a .states))) × (a .width * bitsOf (classNumber (a .states)) % 8 ≡ 0 → ⊥)
+part c =
+    let a = c .before .before .before .before .before .args in
+    let h : a .width * bitsOf (classNumber (a .states)) % 8 ≡ 0 → ⊥ = λ e. c .if1 .left (rw (c .before .bits .ensures .0) e) in
+    (omega arith, h)
+
+bytes-required-requires : tie.Need-bytes-required-requires
+bytes-required-requires c κs = search needs
+
+bits-requires : tie.Need-bits-requires
+bits-requires c κs = search needs
+
+mul-used : tie.Need-mul-used
+mul-used c = omega (arith, mul-le-mul-left (c .before .before .before .before .args .width) (c .bits .ensures .1))
+
+copied-bytes-requires : tie.Need-copied-bytes-requires
+copied-bytes-requires c κs = search needs
+
+same-length : tie.Need-same-length
+same-length c = search needs
+
+returns : tie.Need-returns
+returns c =
+    let p = c .before .before in
+    let t = p .before .before in
+    let n = t .before .before .bytes-required .ensures in
+    let a = t .before .before .before .before .before .args in
+    let full = copy-full (a .width) (classNumber (a .states)) (a .src .now) (rw (t .before .bits .ensures .0) at (t .if1 .taken)) in
+    (rw n at (p .copied-bytes .ensures .0), rw (full, ← n) (p .copied-bytes .ensures .1))
+
+sub-low-bits : tie.Need-sub-low-bits
+sub-low-bits c = search needs
+
+shared-slice-read-low-bits : tie.Need-shared-slice-read-low-bits
+shared-slice-read-low-bits c = let p = part (c .before) in omega arith
+
+low-bits-requires : tie.Need-low-bits-requires
+low-bits-requires c κs = search needs
+
+slice-write-out : tie.Need-slice-write-out
+slice-write-out c = let p = part (c .before .before) in omega arith
+
+add-copied-bytes : tie.Need-add-copied-bytes
+add-copied-bytes c = search needs
+
+sub-copied-bytes : tie.Need-sub-copied-bytes
+sub-copied-bytes c = let p = part (c .before .before .before) in omega arith
+
+copied-bytes-requires-2 : tie.Need-copied-bytes-requires-2
+copied-bytes-requires-2 c κs = let p = part (c .before .before .before) in (omega arith, simp length-set (omega arith))
+
+same-length-2 : tie.Need-same-length-2
+same-length-2 c = ap length (c .before .before .copied-bytes2 .ensures .1) ∙ simp (length-sets, length-set)
+
+returns-2 : tie.Need-returns-2
+returns-2 c =
+    let p = c .before .before in
+    let q = p .before .before in
+    let e = q .before .before in
+    let n = e .before .before .bytes-required .ensures in
+    let s = e .before .before .before .before .before in
+    let a = s .args in
+    let h = part e in
+    let cut = copy-part (a .width) (classNumber (a .states)) (a .src .now) (λ j. q .before .shared-slice-known2 .given j .fits) (s .pre .0) (h .1) in
+    (omega arith, p .copied-bytes2 .ensures .1 ∙ rw (cut, add-one (a .at), q .low-bits .ensures, e .before .bits .ensures .0, n) refl)
+
+pub copied-spec : {M : Type 1} → statement M
+copied-spec =
+    tie.close
+    (tie.spec
+    bytes-required-requires
+    bits-requires
+    mul-used
+    copied-bytes-requires
+    same-length
+    returns
+    sub-low-bits
+    shared-slice-read-low-bits
+    low-bits-requires
+    slice-write-out
+    add-copied-bytes
+    sub-copied-bytes
+    copied-bytes-requires-2
+    same-length-2
+    returns-2)
