@@ -145,13 +145,6 @@ room-of m c = omega arith
 pub place-in : (w c j : ℕ) → j < w → j * bitsOf c / 8 < packedLength w c
 place-in w c j h = omega (arith, mul-le-mul-right (bitsOf c) h, bits-pos c)
 
--- one symbol more takes one byte more where the bytes are full, and none where they are not
-pub length-full : (m c : ℕ) → m * bitsOf c % 8 ≡ 0 → packedLength (suc m) c ≡ suc (packedLength m c)
-length-full m c h = omega (arith, bits-pos c, in-byte c m)
-
-pub length-part : (m c : ℕ) → (m * bitsOf c % 8 ≡ 0 → ⊥) → packedLength (suc m) c ≡ packedLength m c
-length-part m c h = omega (arith, bits-pos c, in-byte c m)
-
 -- ---- packed and unpacked
 
 pub length-packed : (c : ℕ) (s : List ℕ) → length (packed c s) ≡ packedLength (length s) c
@@ -254,18 +247,6 @@ pub clear-first : (w c : ℕ) (b : List ℕ) → Bytes b → 0 < w → length b 
     → ltb (getD b 0 0) (pick (eqb (w * bitsOf c % 8) 0) 256 (2 ^ (w * bitsOf c % 8))) ≡ topClear w c b
 clear-first w c [] h p e = absurd (omega (arith, mul-pos p (bits-pos c)))
 clear-first w c (x ∷ l) h p e = by-first (w * bitsOf c) x l (eqb (w * bitsOf c % 8) 0) refl h (mul-pos p (bits-pos c)) e
-
--- ---- a packing loop: acc holds the bits of the symbols taken and not yet written
-
--- one symbol is taken
-pub push-keep : (b acc x : ℕ) (l : List ℕ)
-    → acc * 2 ^ (suc (length l) * b) + numberOf b (x ∷ l) ≡ (acc * 2 ^ b + x) * 2 ^ (length l * b) + numberOf b l
-unfolding numberOf
-push-keep b acc x l = rw (pow-next (length l) b) (omega arith)
-
--- one byte is written
-pub push-byte : (n x r : ℕ) → x < 256 → r < 2 ^ (n * 8) → digits 8 (suc n) (x * 2 ^ (n * 8) + r) ≡ x ∷ digits 8 n r
-push-byte n x r h k = push 8 n x r h k
 
 pub largest-below : (m : ℕ) (l : List ℕ) → AllBelow m l → 0 < m → largestOf l < m
 unfolding largestOf

@@ -1,9 +1,9 @@
 // Packing: the symbols of a vector, from VCD text or from another packed value, into the bytes of a class. Document 01, 'Symbol and
 // value'.
 //
-// The contract cites `symbolsFrom` of specs/Notation.antt (which symbols) and `packed` of the crate packed (which bytes). One pass, no copy.
-// The packed bytes are the digits of one number (specs/Number.antt), so each is made by itself, from the symbols that lie in it: the last
-// ones, whose symbols all stand in the source, by a loop for each notation that has nothing to ask; the others symbol by symbol.
+// The contract cites `symbolsFrom` of specs/Notation.antt (which symbols) and `packed` of the crate packed (which bytes). One pass: a source
+// in the class already is copied; else each byte is made by itself, from the symbols that lie in it (specs/Number.antt). The last bytes,
+// whose symbols all stand in the source, are made by a loop for each notation that has nothing to ask; those before them symbol by symbol.
 use packed::bytes_required;
 use packed::get_bit;
 use value::states::States;
@@ -100,7 +100,7 @@ fn letter_symbol(letter: u8, states: States) -> Bit
     }
 }
 
-// So many symbols of a text, with so many after them, of a vector of a width.
+// So many symbols of a text, with so many after them. The width is the vector's, of which the contract speaks; likewise below.
 fn text_symbols(text: &[u8], width: u32, after: usize, count: usize, states: States) -> u32
     requires { ⌜ Held Notation.Ascii width (classNumber states) (now text) ⌝ }
     requires { ⌜ (after + count ≤ length (now text)) × (count * bitsOf (classNumber states) ≤ 8) ⌝ }

@@ -92,9 +92,6 @@ text-is w u = where-pick (Text w u) (eqb (length u) 0 || ltb w (length u)) _ _
         (λ l e. let y = symbols-of u e in
         where-map (Extended w l) (Text w u) (extended w l) (λ s. text-from w u (omega arith) k e y) (extended-is w l (omega arith)))
 
-pub text-of : (w : ℕ) (u : List ℕ) {s : List ℕ} → textSymbols w u ≡ some s → Text w u s
-text-of w u = where-some (Text w u) (textSymbols w u) (text-is w u)
-
 pub text-good : (w : ℕ) (u : List ℕ) → isSome (textSymbols w u) ≡ true → Text w u (orEmpty (textSymbols w u))
 text-good w u = by (textSymbols w u) (text-is w u)
   where

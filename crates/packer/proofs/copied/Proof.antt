@@ -1,10 +1,11 @@
 -- The bytes of the source, of which the first loses the bits above the symbols.
-use Prim.Native.Nat.{_*_, _%_, _<_}
-use mathlib.Core.Path.{_≡_, refl, ap, _∙_}
+use Prim.Native.Nat.{ℕ, _-_, _*_, _%_, _^_, _<_}
+use mathlib.Core.Path.{_≡_, refl, ap, ap₂, _∙_}
+use mathlib.Core.List.{List}
 use native.Mathlib.Nat.{mul-le-mul-left}
 use native.Mathlib.Numerals.{add-one}
 use native.Mathlib.Omega.{arith}
-use lib.ListN.{length, length-set}
+use lib.ListN.{length, getD, length-set}
 use lib.Seq.{length-sets}
 use Rattle.value.specs.Class.{classNumber, bitsOf}
 use Rattle.packed.specs.Packed.{packedLength}
@@ -77,9 +78,12 @@ returns-2 c =
     let n = e .before .before .bytes-required .ensures in
     let s = e .before .before .before .before .before in
     let a = s .args in
+    let k : ℕ = classNumber (a .states) in
+    let b : List ℕ = a .src .now in
     let h = part e in
-    let cut = copy-part (a .width) (classNumber (a .states)) (a .src .now) (λ j. q .before .shared-slice-known2 .given j .fits) (s .pre .0) (h .1) in
-    (omega arith, p .copied-bytes2 .ensures .1 ∙ rw (cut, add-one (a .at), q .low-bits .ensures, e .before .bits .ensures .0, n) refl)
+    let cut = copy-part (a .width) k b (λ j. q .before .shared-slice-known2 .given j .fits) (s .pre .0) (h .1) in
+    let first = q .low-bits .ensures ∙ ap₂ (λ (i u : ℕ). getD b (length b - i) 0 % 2 ^ (a .width * u % 8)) n (e .before .bits .ensures .0) in
+    (omega arith, p .copied-bytes2 .ensures .1 ∙ rw (cut, add-one (a .at), first, n) refl)
 
 pub copied-spec : {M : Type 1} → statement M
 copied-spec =
