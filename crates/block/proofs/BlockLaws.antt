@@ -7,11 +7,11 @@ use lib.ListN.{length, take}
 use lib.Seq.{sets, length-take-le}
 use Rattle.image.specs.Block.{block, blockBytes, blockSize}
 use Rattle.recording.specs.declared.SignalRecord.{SignalRecord}
-use Rattle.recording.specs.Work.{Item}
+use Rattle.recording.specs.Work.{Item, itemsIn}
 use Rattle.recording.specs.Step.{partsFrom}
 use Rattle.work.specs.Measure.{dataLength}
 use Rattle.work.proofs.WorkLaws.{Below, items-below}
-use Rattle.block.specs.Given.{itemsIn, Divides, topsOf, fronted}
+use Rattle.block.specs.Given.{Divides, topsOf, fronted}
 use Rattle.block.proofs.Passes.{Writes, passes}
 
 written-of : (rs : List SignalRecord) (is : List Item) (ts t : List ℕ) (s held size : ℕ) → length rs ≡ s → length ts ≡ held → Below s is

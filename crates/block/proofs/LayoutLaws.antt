@@ -11,8 +11,8 @@ use lib.Seq.{sets, set-append-left, take-at, drop-at, drop-drop}
 use Rattle.numbers.specs.LittleEndian.{le}
 use Rattle.numbers.proofs.LittleEndianLaws.{length-le, unle-le}
 use Rattle.image.specs.Block.{les}
+use Rattle.image.proofs.SizeLaws.{length-les}
 use Rattle.block.specs.Passes.{keptAt, keep}
-use Rattle.block.proofs.SizeLaws.{length-les}
 
 -- ---- a run of stores in two lists one after the other
 

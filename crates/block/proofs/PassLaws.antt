@@ -1,5 +1,5 @@
--- What one more turn of each pass does: the clauses of specs/Passes as equations that fit the code's loops; and each pass keeps the
--- length.
+-- What one more turn of each pass does: the clauses of specs/Passes as equations that fit the code's loops; and what clearing, counting and
+-- beginning a part leave keeps its length.
 -- Assumes nothing.
 use Prim.Native.Nat.{ℕ, zero, suc, _+_, _-_, _*_, _≤_, _<_}
 use mathlib.Core.Path.{_≡_, refl, sym, _∙_}
@@ -13,7 +13,7 @@ use lib.Seq.{sets, length-sets, drop-cons}
 use lib.Dec.{eqb}
 use borrow.Author.Tests.{eq-eqb, ne-eqb}
 use Rattle.lists.specs.Choice.{pick}
-use Rattle.lists.proofs.SetsLaws.{sets-append}
+use Rattle.lists.proofs.SetsLaws.{sets-append, part-more}
 use Rattle.numbers.specs.LittleEndian.{le, unle}
 use Rattle.numbers.proofs.LittleEndianLaws.{length-le}
 use Rattle.value.specs.Class.{classNumber}
@@ -26,10 +26,6 @@ use Rattle.recording.specs.Memory.{recordOf}
 use Rattle.work.proofs.WorkLaws.{Turn}
 use Rattle.block.specs.Given.{topsOf}
 use Rattle.block.specs.Passes.{keptAt, keep, clear, count, begun, nextPart, begin, scatter, settled, endOf, settle, Counts, Begins, Scatters, Settles}
-
--- a byte of a part, and the bytes after it
-pub part-more : (n at : ℕ) (s : List ℕ) → at < length s → take (suc n) (drop at s) ≡ getD s at 0 ∷ take n (drop (suc at) s)
-part-more n at s h = rw (drop-cons s at 0) refl
 
 pub les-none : les 8 [] ≡ []
 unfolding les
@@ -212,24 +208,3 @@ pub length-begun : (d o g top : ℕ) (t : List ℕ) → length (begun d o g top 
 length-begun d o g top t =
     length-pick (eqb (keptAt g t) 0) t (keep g (o + 1) (sets t (d + o) (top ∷ []))) t refl
     (length-keep g (o + 1) (sets t (d + o) (top ∷ [])) ∙ length-sets t (d + o) (top ∷ []))
-
-pub length-begin : (d o g : ℕ) (tops t : List ℕ) → length (begin d o g tops t) ≡ length t
-unfolding begin
-length-begin d o g [] t = refl
-length-begin d o g (x ∷ xs) t = length-begin d (nextPart o g t) (suc g) xs (begun d o g x t) ∙ length-begun d o g x t
-
-pub length-scatter : (d : ℕ) (is : List Item) (t : List ℕ) → length (scatter d is t) ≡ length t
-unfolding scatter
-length-scatter d [] t = refl
-length-scatter d (r ∷ rs) t =
-    length-scatter d rs _
-    ∙ length-keep (r .signal) (keptAt (r .signal) t + length (r .bytes)) (sets t (d + keptAt (r .signal) t) (r .bytes))
-    ∙ length-sets t (d + keptAt (r .signal) t) (r .bytes)
-
-pub length-settled : (o g : ℕ) (t : List ℕ) → length (settled o g t) ≡ length t
-length-settled o g t = length-pick (eqb (keptAt g t) 0) t (keep g (o + 1) t) t refl (length-keep g (o + 1) t)
-
-pub length-settle : (o g n : ℕ) (t : List ℕ) → length (settle o g n t) ≡ length t
-unfolding settle
-length-settle o g zero t = refl
-length-settle o g (suc n) t = length-settle (endOf o g t) (suc g) n (settled o g t) ∙ length-settled o g t

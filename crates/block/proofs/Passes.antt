@@ -12,6 +12,7 @@ use Rattle.numbers.specs.LittleEndian.{le}
 use Rattle.numbers.proofs.LittleEndianLaws.{length-le}
 use Rattle.value.specs.Class.{classNumber}
 use Rattle.image.specs.Block.{les, dataOf, offsetsFrom, block, blockBytes, blockSize}
+use Rattle.image.proofs.SizeLaws.{length-les, length-offsets}
 use Rattle.recording.specs.declared.SignalRecord.{SignalRecord}
 use Rattle.recording.specs.Work.{Item}
 use Rattle.recording.specs.Step.{partsFrom}
@@ -19,7 +20,7 @@ use Rattle.work.specs.Measure.{dataLength}
 use Rattle.work.proofs.WorkLaws.{Below}
 use Rattle.block.specs.Given.{topsOf, closed, Closes}
 use Rattle.block.specs.Passes.{clear, count, begin, scatter, settle, Counts, Begins, Scatters, Settles}
-use Rattle.block.proofs.SizeLaws.{length-data, length-parts, length-les, length-offsets}
+use Rattle.block.proofs.SizeLaws.{length-data, length-parts}
 use Rattle.block.proofs.LayoutLaws.{raw, laid, sets-front, sets-after}
 use Rattle.block.proofs.CountLaws.{streams, length-streams, streams-at, clear-laid, count-laid}
 use Rattle.block.proofs.SlotLaws.{Slot, empty, marks, filling, moved, moved-at, length-moved}

@@ -1,15 +1,12 @@
 -- How long the data and the bytes of the block of some work are.
 -- Assumes nothing.
-use Prim.Native.Nat.{ℕ, suc, _+_, _*_}
+use Prim.Native.Nat.{ℕ, suc}
 use mathlib.Core.Path.{_≡_, refl, ap, _∙_}
 use mathlib.Core.List.{List, [], _∷_}
-use mathlib.Core.Option.{Option, some, none}
-use native.Mathlib.Nat.{mul-suc}
-use native.Mathlib.Omega.{arith}
 use lib.ListN.{length, length-append}
-use Rattle.numbers.proofs.LittleEndianLaws.{length-le}
 use Rattle.value.specs.Class.{classNumber}
-use Rattle.image.specs.Block.{Part, les, partBytes, dataOf, offsetsFrom, block, blockBytes, blockSize}
+use Rattle.image.specs.Block.{partBytes, dataOf, block, blockBytes, blockSize}
+use Rattle.image.proofs.SizeLaws.{block-size}
 use Rattle.recording.specs.declared.SignalRecord.{SignalRecord}
 use Rattle.recording.specs.Work.{Item, gather}
 use Rattle.recording.specs.Step.{partFrom, partsFrom}
@@ -35,19 +32,6 @@ unfolding partsFrom
 length-parts g [] is = refl
 length-parts g (r ∷ rs) is = ap suc (length-parts (suc g) rs is)
 
-pub length-les : (w : ℕ) (l : List ℕ) → length (les w l) ≡ w * length l
-unfolding les
-length-les w [] = omega arith
-length-les w (x ∷ l) = simp (length-append, length-le, length-les w l, mul-suc) (omega arith)
-
-pub length-offsets : (at : ℕ) (ps : List (Option (Part (List ℕ)))) → length (offsetsFrom at ps) ≡ length ps
-unfolding offsetsFrom
-length-offsets at [] = refl
-length-offsets at (none ∷ ps) = ap suc (length-offsets at ps)
-length-offsets at (some p ∷ ps) = ap suc (length-offsets (at + length (partBytes (some p))) ps)
-
 pub length-block : (ts : List ℕ) (rs : List SignalRecord) (is : List Item)
     → length (blockBytes (block ts (partsFrom 0 rs is))) ≡ blockSize (length rs) (length ts) (dataLength 0 (length rs) is)
-unfolding blockBytes
-length-block ts rs is =
-    simp (length-append, length-le, length-les, length-offsets, length-parts, length-data) (omega arith)
+length-block ts rs is = block-size (block ts (partsFrom 0 rs is)) ∙ rw (length-parts 0 rs is, length-data rs is) refl

@@ -3,25 +3,18 @@
 -- Assumes nothing.
 use Prim.Native.Nat.{ℕ, _+_, _*_}
 use mathlib.Core.Path.{_≡_}
-use mathlib.Core.List.{List, [], _++_, map}
-use mathlib.Core.Option.{Option, some, none}
+use mathlib.Core.List.{List, _++_, map}
+use mathlib.Core.Option.{some}
 use lib.ListN.{length}
 use lib.Seq.{sets}
 use Rattle.numbers.specs.LittleEndian.{le}
 use Rattle.value.specs.Class.{classNumber}
 use Rattle.image.specs.Block.{les}
 use Rattle.recording.specs.declared.SignalRecord.{SignalRecord}
-use Rattle.recording.specs.Work.{Item, itemsOf}
+use Rattle.recording.specs.Work.{Item, itemsOf, itemsIn}
 use Rattle.block.specs.Passes.{clear, count, scatter, settle, Counts, Scatters, Settles}
 
-abbrev pub orNone : Option (List Item) → List Item
-orNone none = []
-orNone (some is) = is
-
--- none where the work does not divide into records of numbers below `signals`
-abbrev pub itemsIn : (signals : ℕ) → List ℕ → List Item
-itemsIn n w = orNone (itemsOf (length w) n w)
-
+-- the work divides into records of numbers below `signals`
 abbrev pub Divides : (signals : ℕ) → List ℕ → Type 0
 Divides n w = itemsOf (length w) n w ≡ some (itemsIn n w)
 

@@ -11,7 +11,8 @@ ghost use Prim.Native.Nat.{_+_, _*_, _≤_};
 ghost use lib.ListN.{length, take};
 ghost use lib.Seq.{sets};
 ghost use Rattle.numbers.specs.LittleEndian.{le};
-ghost use Rattle.block.specs.Given.{itemsIn, Divides, opened, closed, Opens, Closes};
+ghost use Rattle.recording.specs.Work.{itemsIn};
+ghost use Rattle.block.specs.Given.{Divides, opened, closed, Opens, Closes};
 
 // The first three numbers: how many bytes the block has, how many times, how many signals.
 fn put_head(tail: &mut [u8], size: u32, held: u32, signals: u32)

@@ -10,8 +10,9 @@ ghost use lib.ListN.{length, take, drop};
 ghost use lib.Seq.{sets};
 ghost use Rattle.value.specs.Class.{classNumber};
 ghost use Rattle.image.specs.Block.{les};
+ghost use Rattle.recording.specs.Work.{itemsIn};
 ghost use Rattle.block.specs.Passes.{keptAt, keep, clear, count, begun, nextPart, scatter, endOf, settled, settle, Counts, Scatters, Settles};
-ghost use Rattle.block.specs.Given.{itemsIn, Divides};
+ghost use Rattle.block.specs.Given.{Divides};
 
 // The number kept for signal g.
 fn kept_for(tail: &[u8], g: usize) -> u32

@@ -2,7 +2,7 @@
 -- Assumes nothing.
 use mathlib.Core.Path.{_≡_, refl}
 use mathlib.Core.Bool.{true}
-use mathlib.Core.List.{List, [], _∷_}
+use mathlib.Core.List.{[], _∷_}
 use Rattle.lists.specs.Same.{same}
 use Rattle.numbers.specs.Leb128.{groups, lebOf}
 use Rattle.numbers.specs.LittleEndian.{le, unle}

@@ -6,7 +6,7 @@ use mathlib.Core.List.{List, [], _∷_}
 use lib.ListN.{length, getD, set}
 use Rattle.signal.specs.Content.{Given, Decoded, refuse, accept, decode}
 use Rattle.stream.specs.Stream.{changeBytes}
-use Rattle.recording.specs.Memory.{Memory, memory, After, recordAt, Tests, guarded, refused}
+use Rattle.recording.specs.Memory.{Memory, After, recordAt, Tests, guarded, refused}
 use Rattle.recording.specs.Refusals.{openTests, earlyTests, signalTests, roomTests}
 use Rattle.recording.specs.Step.{changeBy, changeOf}
 use Rattle.change.specs.Found.{Found, foundRefused, foundDone, foundBy, foundOf, afterChange}

@@ -38,7 +38,7 @@ use Rattle.change.specs.declared.admission.Admission.the-variants as adm
 use Rattle.change.specs.declared.item.ItemStart.{ItemStart}
 use Rattle.change.specs.declared.item.ItemStart.the-variants as start
 use Rattle.change.specs.Found.{Found, found, working, risen, foundRefused, foundDone, foundBy, foundOf}
-use Rattle.change.specs.Stages.{admissionOf, startOf, begun}
+use Rattle.change.specs.Stages.{admissionOf, itemStartOf, begun}
 use Rattle.change.proofs.NotationLaws.{item-written, given-length}
 
 -- ---- a function of what the tests choose
@@ -168,23 +168,23 @@ known-width Absent = refl
 
 -- the tests of room, as the code finds the width and the length
 module _ (s : Encoder) (r : SignalRecord) (work : ℕ) (v : ChangeValue) where
-  pub start-beyond : s .held - 1 < r .index → start.Refused 10 ≡ startOf s r work v
-  unfolding startOf
+  pub start-beyond : s .held - 1 < r .index → start.Refused 10 ≡ itemStartOf s r work v
+  unfolding itemStartOf
   start-beyond h = rw (lt-ltb (s .held - 1) (r .index) h) refl
 
-  pub start-wide : {x : ℕ} → x ≡ widthOf (r .kind) → r .index ≤ s .held - 1 → 65536 < x → start.Refused 10 ≡ startOf s r work v
-  unfolding startOf
+  pub start-wide : {x : ℕ} → x ≡ widthOf (r .kind) → r .index ≤ s .held - 1 → 65536 < x → start.Refused 10 ≡ itemStartOf s r work v
+  unfolding itemStartOf
   start-wide {x} p h k = rw (le-ltb (s .held - 1) (r .index) h, known-width (r .kind), ← p, lt-leb x 65536 k) refl
 
   module _ {x n : ℕ} (p : x ≡ widthOf (r .kind)) (q : n ≡ changeLength x (s .held - 1 - r .index) v) (h : r .index ≤ s .held - 1) (k : x ≤ 65536) where
-    start-known : startOf s r work v ≡ pick (ltb work (s .work + (8 + n))) (start.Refused 7) (start.Length n)
-    unfolding startOf
+    start-known : itemStartOf s r work v ≡ pick (ltb work (s .work + (8 + n))) (start.Refused 7) (start.Length n)
+    unfolding itemStartOf
     start-known = rw (le-ltb (s .held - 1) (r .index) h, known-width (r .kind), ← p, le-leb x 65536 k, ← q) refl
 
-    pub start-full : work - s .work < 8 + n → start.Refused 7 ≡ startOf s r work v
+    pub start-full : work - s .work < 8 + n → start.Refused 7 ≡ itemStartOf s r work v
     start-full f = let g : work < s .work + (8 + n) = omega arith in sym (start-known ∙ rw (lt-ltb work (s .work + (8 + n)) g) refl)
 
-    pub start-done : s .work + (8 + n) ≤ work → start.Length n ≡ startOf s r work v
+    pub start-done : s .work + (8 + n) ≤ work → start.Length n ≡ itemStartOf s r work v
     start-done f = sym (start-known ∙ rw (le-ltb work (s .work + (8 + n)) f) refl)
 
 -- what holds where the record of n stream bytes begins
@@ -200,9 +200,9 @@ room-left false true m n e = let z : _≡_ {A = ℕ} 0 1 = cc in absurd (omega a
 room-left false false m n e = (refl, refl, (cc))
 
 pub item-room : (s : Encoder) (r : SignalRecord) (work : ℕ) (x : Given) (v : ChangeValue) (t : States) {i : ItemStart} {n : ℕ}
-    → decodedAs (r .kind) (decode (r .kind) x) ≡ Change v t → i ≡ startOf s r work v → i ≡ start.Length n → work < 18446744073709551616
+    → decodedAs (r .kind) (decode (r .kind) x) ≡ Change v t → i ≡ itemStartOf s r work v → i ≡ start.Length n → work < 18446744073709551616
     → Room s r work (saidBytes (r .kind) (s .held - 1 - r .index) x) n
-unfolding startOf
+unfolding itemStartOf
 item-room s r work x v t {i} {n} said e f m =
     let p = room-left _ _ _ n (sym e ∙ f) in
     let h : s .work + (8 + n) ≤ work = rw (← (p .2)) (ltb-false _ _ (p .1)) in
@@ -223,21 +223,21 @@ module _ (s : Encoder) (r : SignalRecord) (w : List ℕ) (g : ℕ) (x : Given) (
   byStart (start.Refused k) = foundRefused s r w k
   byStart (start.Length n) = foundDone s r w g stream (classNumber t)
 
-  found-started : byStart (startOf s r (length w) v) ≡ foundBy s r w g (decode (r .kind) x)
-  unfolding startOf
+  found-started : byStart (itemStartOf s r (length w) v) ≡ foundBy s r w g (decode (r .kind) x)
+  unfolding itemStartOf
   found-started =
       let n = changeLength (widthOf (r .kind)) (s .held - 1 - r .index) v in
       guarded-by byStart (roomTests s r (length w) n) start.Refused (start.Length n) (λ k. refl) refl
       ∙ rw (← (given-length (r .kind) (s .held - 1 - r .index) x v (t, said))) (sym (found-written s r w g (decode (r .kind) x) v t said))
 
   -- what is left where the record is refused, and where all of it is written
-  pub item-refused : {i : ItemStart} {k : ℕ} (w′ : List ℕ) → i ≡ startOf s r (length w) v → w′ ≡ begun w (s .work) g i → i ≡ start.Refused k
+  pub item-refused : {i : ItemStart} {k : ℕ} (w′ : List ℕ) → i ≡ itemStartOf s r (length w) v → w′ ≡ begun w (s .work) g i → i ≡ start.Refused k
       → foundRefused s r w′ k ≡ foundBy s r w g (decode (r .kind) x)
   item-refused {i} {k} w′ e h f =
       ap (λ (u : List ℕ). foundRefused s r u k) (h ∙ ap (begun w (s .work) g) f) ∙ ap byStart (sym f ∙ e) ∙ found-started
 
   pub item-done : {i : ItemStart} {n : ℕ} (w₁ w₂ : List ℕ) → Room s r (length w) stream n
-      → i ≡ startOf s r (length w) v → w₁ ≡ begun w (s .work) g i → i ≡ start.Length n → w₂ ≡ sets w₁ (s .work + 8) stream
+      → i ≡ itemStartOf s r (length w) v → w₁ ≡ begun w (s .work) g i → i ≡ start.Length n → w₂ ≡ sets w₁ (s .work + 8) stream
       → found (say recorded) (working s (8 + n)) (risen s r (classNumber t)) w₂ ≡ foundBy s r w g (decode (r .kind) x)
   item-done {i} {n} w₁ w₂ z e h f b =
       rw (item-written w w₁ w₂ (s .work) g n stream (z .sized) (h ∙ ap (begun w (s .work) g) f) b, z .sized) (ap byStart (sym f ∙ e) ∙ found-started)

@@ -27,8 +27,8 @@ admissionOf s records times work image g =
     (pick (leb (s .signals) g) (admission.Refused 4) admission.Taken)))
 
 -- the tests after the value's decoding, by the length of the work buffer
-unfoldable pub startOf : Encoder → SignalRecord → (work : ℕ) → ChangeValue → ItemStart
-startOf s r work v =
+unfoldable pub itemStartOf : Encoder → SignalRecord → (work : ℕ) → ChangeValue → ItemStart
+itemStartOf s r work v =
     let n = changeLength (widthOf (r .kind)) (s .held - 1 - r .index) v in
     guarded (roomTests s r work n) start.Refused (start.Length n)
 

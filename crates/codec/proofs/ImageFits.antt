@@ -1,27 +1,28 @@
 -- A valid image can be written: what document 01 asks of an image bounds every number in its bytes.
 -- Assumes nothing.
-use Prim.Native.Nat.{ℕ, zero, suc, _+_, _-_, _*_, _≤_, _<_, _^_}
+use Prim.Native.Nat.{ℕ, zero, suc, _+_, _-_, _≤_, _<_, _^_}
 use mathlib.Core.Path.{_≡_, refl, ap, _∙_}
 use mathlib.Core.Bool.{true}
 use mathlib.Core.List.{List, [], _∷_, _++_, map}
 use mathlib.Core.Option.{Option, some, none}
 use native.Mathlib.Omega.{arith}
 use borrow.Author.Tests.{le-leb, leb-true, eq-eqb}
-use lib.ListN.{length, getD, drop, length-append}
+use lib.ListN.{length, getD, drop, length-append, length-map}
 use Rattle.numbers.specs.LittleEndian.{le}
 use Rattle.numbers.proofs.LittleEndianLaws.{length-le}
 use Rattle.signal.specs.declared.kind.SignalEncoding.{SignalEncoding}
 use Rattle.signal.specs.declared.kind.SignalEncoding.the-variants.{BitVector, Real, Absent}
 use Rattle.signal.specs.Kind.{knownKind, topLimit}
 use Rattle.stream.specs.Entries.{Entry, streamBytes}
-use Rattle.image.specs.Block.{Part, Block, les, dataOf, offsetsFrom, blockSize, blockBytes}
+use Rattle.image.specs.Block.{Part, Block, les, blockSize, blockBytes}
 use Rattle.image.specs.Head.{kindNumber, headSize, headBytes, imageLimit}
 use Rattle.image.specs.Image.{Image, streamedParts, streamed, blocksBytes, imageBytes}
+use Rattle.image.proofs.SizeLaws.{length-les, block-size}
 use Rattle.codec.specs.Valid.{EachBelow, KnownKinds, EntryFits, EntriesFit, PartFits, PartsFit, firstIndex, Filled, BlockFits, BlocksFit, Valid}
 use Rattle.form.specs.Form.{OkChain, repeat, each, uint}
 use Rattle.codec.specs.Layout.{lengthsIn, offsets, dataSize, layout, layoutForm}
 use Rattle.codec.specs.ImageForm.{entryForm, stream, partForm, blockForm, kindForm, Head, headForm, headOf, imageForm}
-use Rattle.codec.proofs.LayoutLaws.{lengths-of, size-parts, count-parts, count-offsets, offsets-parts}
+use Rattle.codec.proofs.LayoutLaws.{lengths-of, size-parts, count-parts, count-offsets}
 use Rattle.codec.proofs.StreamLaws.{stream-written}
 use Rattle.codec.proofs.WrittenOut.{count-streamed, blocks-written}
 
@@ -33,11 +34,6 @@ uints-fit w zero [] e a = refl
 uints-fit w zero (x ∷ l) e a = absurd (omega arith)
 uints-fit w (suc n) [] e a = absurd (omega arith)
 uints-fit w (suc n) (x ∷ l) e a = (a .0, uints-fit w n l (omega arith) (a .1))
-
-pub length-les : (w : ℕ) (l : List ℕ) → length (les w l) ≡ length l * w
-unfolding les
-length-les w [] = omega arith
-length-les w (x ∷ l) = omega (arith, length-append (le w x) (les w l), length-le w x, length-les w l)
 
 -- ---- a stream
 
@@ -96,35 +92,9 @@ layout-fits s t l e h =
       rw (eq-eqb s s refl, le-leb (blockSize s t 0) n (omega arith), d, lengths-of 0 l) refl,
     )
 
-filled-small : (limit n follow : ℕ) → Filled limit n follow → n ≤ limit
+pub filled-small : (limit n follow : ℕ) → Filled limit n follow → n ≤ limit
 filled-small limit n zero f = f
 filled-small limit n (suc follow) f = omega arith
-
--- the size that a block says is the number of its bytes
-pub block-size : (b : Block (List ℕ)) → length (blockBytes b) ≡ blockSize (length (b .parts)) (length (b .times)) (length (dataOf (b .parts)))
-unfolding blockBytes
-block-size b =
-    let s : ℕ = length (b .parts) in
-    let t : ℕ = length (b .times) in
-    let z : ℕ = blockSize s t (length (dataOf (b .parts))) in
-    let o : List ℕ = les 4 (offsetsFrom 0 (b .parts)) in
-    let ts : List ℕ = les 8 (b .times) in
-    let d : List ℕ = dataOf (b .parts) in
-    let lo : length o ≡ s * 4 = length-les 4 (offsetsFrom 0 (b .parts)) ∙ ap (λ (l : List ℕ). length l * 4) (offsets-parts 0 (b .parts))
-    ∙ ap (λ (n : ℕ). n * 4) (count-offsets 0 (lengthsIn (b .parts)) ∙ count-parts (b .parts)) in
-    length-append (le 4 z) (le 4 t ++ (le 4 s ++ (o ++ (ts ++ d))))
-    ∙ omega (
-      arith,
-      length-append (le 4 t) (le 4 s ++ (o ++ (ts ++ d))),
-      length-append (le 4 s) (o ++ (ts ++ d)),
-      length-append o (ts ++ d),
-      length-append ts d,
-      lo,
-      length-les 8 (b .times),
-      length-le 4 z,
-      length-le 4 t,
-      length-le 4 s,
-    )
 
 module _ (limit : ℕ) (ks : List SignalEncoding) (high : limit ≤ 65535) where
   block-fits : (end : Option ℕ) (tops : List ℕ) (b : Block (List Entry)) (follow : ℕ) → BlockFits limit ks end tops b follow
@@ -168,10 +138,6 @@ unfolding repeat
 kinds-fit [] h = refl
 kinds-fit (k ∷ l) h = (kind-fits k (h .0), kinds-fit l (h .1))
 
-length-map : (l : List SignalEncoding) → length (map kindNumber l) ≡ length l
-length-map [] = refl
-length-map (k ∷ l) = ap suc (length-map l)
-
 pub head-size : (limit n total : ℕ) (ks : List SignalEncoding) → length (headBytes limit n total ks) ≡ headSize (length ks)
 unfolding headBytes
 head-size limit n total ks =
@@ -184,7 +150,7 @@ head-size limit n total ks =
       length-append (le 4 n) (le 4 total ++ l),
       length-append (le 4 total) l,
       length-les 4 (map kindNumber ks),
-      length-map ks,
+      length-map ks kindNumber,
       length-le 4 s,
       length-le 4 limit,
       length-le 4 n,

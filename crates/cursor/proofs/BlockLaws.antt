@@ -3,7 +3,7 @@
 use Prim.Native.Nat.{ℕ, zero, suc, _+_, _-_, _≤_, _<_, _^_}
 use mathlib.Core.Path.{_≡_, refl, sym, ap, _∙_, subst}
 use mathlib.Core.List.{List, [], _∷_, _++_}
-use mathlib.Core.Option.{Option, some, none}
+use mathlib.Core.Option.{none}
 use native.Mathlib.Omega.{arith}
 use native.Mathlib.Decide.{decLt}
 use lib.ListN.{length, getD, drop, length-append, length-drop, take-append-drop}
@@ -15,17 +15,18 @@ use Rattle.stream.specs.Entries.{Entry, streamBytes}
 use Rattle.stream.specs.Stream.{changeBytes, maxDelta}
 use Rattle.stream.specs.Answer.{changeAt}
 use Rattle.stream.specs.declared.read.ReadChange.the-variants as read
-use Rattle.image.specs.Block.{Part, Block, block}
+use Rattle.image.specs.Block.{Block, block}
 use Rattle.image.specs.Head.{imageLimit}
 use Rattle.image.specs.Image.{Image, streamed}
+use Rattle.image.proofs.SizeLaws.{block-size}
 use Rattle.codec.proofs.StreamLaws.{change-long}
-use Rattle.codec.proofs.ImageFits.{block-size}
-use Rattle.loaded.specs.Opener.{kindAt, blockAt, partAt, streamIn}
+use Rattle.loaded.specs.Opener.{kindAt, blockAt, partAt}
 use Rattle.loaded.specs.Loading.{entriesIn}
 use Rattle.entry.specs.Read.{contentRead, Reads}
 use Rattle.walk.specs.Walk.{Opened, imageIn, blockPlace, BlockHere, TimeHere, PartHere}
 use Rattle.walk.proofs.HeadLaws.{means, head-in}
 use Rattle.walk.proofs.BlockLaws.{here, next-place, next-size}
+use Rattle.walk.proofs.PartLaws.{stream-entries}
 use Rattle.cursor.specs.declared.point.Pointing.{Pointing}
 use Rattle.cursor.specs.Point.{Point, passed, allPassed, blocksPassed, pointAs, PointReads}
 use Rattle.cursor.proofs.PointLaws.{passed-count}
@@ -86,11 +87,6 @@ pub record Passing (k : SignalEncoding) (b : List ℕ) (g at to t : ℕ) (start 
       allPassed (blockAt (imageIn b) number .times) t (pointAs k b held) left
       ≡ allPassed (blockAt (imageIn b) number .times) t (pointAs k b start) (entriesIn (partAt (blockAt (imageIn b) number) g))
 
-stream-is : (k : SignalEncoding) (p : Option (Part (List Entry))) → streamIn k p ≡ streamBytes k 0 (entriesIn p)
-unfolding streamBytes
-stream-is k none = refl
-stream-is k (some p) = refl
-
 pub passing-begins : (n : ℕ) (k : SignalEncoding) (b : List ℕ) (g at from to top t : ℕ) (start : Pointing) → Bytes b → Opened b → BlockHere n at b → k ≡ kindAt (imageIn b) g
     → PartHere from to top n g b → PointReads k b start → start .count ≤ at → Passing k b g at to t start start from 0
 passing-begins n k b g at from to top t start y o h e f r c =
@@ -101,7 +97,7 @@ passing-begins n k b g at from to top t start y o h e f r c =
     let z : from + (to - from) ≡ to = omega (arith, f .ordered) in
     let s : drop from b ≡ streamBytes (kindAt x g) 0 es ++ drop to b =
     sym (take-append-drop (to - from) (drop from b))
-    ∙ ap (λ (l : List ℕ). l ++ drop (to - from) (drop from b)) (f .stream ∙ stream-is (kindAt x g) (partAt (blockAt x n) g))
+    ∙ ap (λ (l : List ℕ). l ++ drop (to - from) (drop from b)) (f .stream ∙ stream-entries (kindAt x g) (partAt (blockAt x n) g))
     ∙ ap (λ (l : List ℕ). streamBytes (kindAt x g) 0 es ++ l) (drop-drop (to - from) from b ∙ ap (λ (m : ℕ). drop m b) z) in
     record {
       number = n;

@@ -18,8 +18,9 @@ use Rattle.stream.specs.Entries.{Entry, streamBytes}
 use Rattle.stream.specs.Stream.{changeBytes}
 use Rattle.image.specs.Block.{Part, Block, partBytes, dataOf}
 use Rattle.image.specs.Image.{streamedPart, streamedParts}
-use Rattle.codec.specs.Valid.{EntriesFit, OptionFits, PartsFit, BlocksFit, Filled, firstIndex, topsAfter}
+use Rattle.codec.specs.Valid.{EntriesFit, OptionFits, PartsFit, BlocksFit, firstIndex, topsAfter}
 use Rattle.codec.proofs.StreamLaws.{change-long}
+use Rattle.codec.proofs.ImageFits.{filled-small}
 use Rattle.loaded.specs.Opener.{partAt}
 use Rattle.loaded.specs.Loading.{overlap, joinTimes, moved, Load, load, entriesIn, loadBlock, loadFrom, loads}
 use Rattle.cursor.specs.Point.{Point, unpointed, passed, allPassed, blocksPassed}
@@ -134,10 +135,6 @@ module _ (limit : ℕ) (ks : List SignalEncoding) (t g : ℕ) where
 
 -- ---- block number n
 
-filled-most : (limit n follow : ℕ) → Filled limit n follow → n ≤ limit
-filled-most limit n zero f = f
-filled-most limit n (suc m) f = omega arith
-
 pub record PartsAt (limit : ℕ) (ks : List SignalEncoding) (y : Block (List Entry)) : Type 0 where
   pub first : ℕ
   pub tops : List ℕ
@@ -148,7 +145,7 @@ pub parts-at : (limit : ℕ) (ks : List SignalEncoding) (end : Option ℕ) (tops
     → n < length bs → PartsAt limit ks (getD bs n past)
 parts-at limit ks end tops [] n past f h = absurd (omega arith)
 parts-at limit ks end tops (y ∷ bs) zero past f h =
-    record { first = firstIndex end; tops = tops; most = filled-most limit (length (y .times)) (length bs) (f .0 .filled); parts = f .0 .parts }
+    record { first = firstIndex end; tops = tops; most = filled-small limit (length (y .times)) (length bs) (f .0 .filled); parts = f .0 .parts }
 parts-at limit ks end tops (y ∷ bs) (suc n) past f h = parts-at limit ks _ _ bs n past (f .1) (omega arith)
 
 -- a signal has no more entries in a block than the block data bytes

@@ -19,14 +19,14 @@ use Rattle.numbers.proofs.LittleEndianLaws.{length-le}
 use Rattle.image.specs.Block.{les, blockBytes, blockSize}
 use Rattle.recording.specs.declared.Encoder.{Encoder}
 use Rattle.recording.specs.declared.SignalRecord.{SignalRecord}
-use Rattle.recording.specs.Work.{Item, itemsOf}
+use Rattle.recording.specs.Work.{Item, itemsOf, itemsIn}
 use Rattle.recording.specs.Memory.{Memory, memory}
 use Rattle.recording.specs.Step.{noCut, cuts, cutBlock, cutItems, cutOf, cutIn}
 use Rattle.work.specs.Measure.{dataLength, measured}
 use Rattle.work.specs.declared.Measured.{Measured}
 use Rattle.work.specs.declared.Measured.the-variants.{Data, Damaged}
 use Rattle.refusals.proofs.StateLaws.{Sound}
-use Rattle.block.specs.Given.{itemsIn, Divides, topsOf, fronted, opened, Opens, Closes}
+use Rattle.block.specs.Given.{Divides, topsOf, fronted, opened, Opens, Closes}
 use Rattle.block.specs.Passes.{clear, begin}
 use Rattle.block.proofs.BlockLaws.{written}
 use Rattle.block.proofs.Passes.{Writes}

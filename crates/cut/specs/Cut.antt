@@ -11,10 +11,10 @@ use Rattle.lists.specs.Choice.{pick}
 use Rattle.numbers.specs.LittleEndian.{le}
 use Rattle.image.specs.Block.{blockSize}
 use Rattle.recording.specs.declared.Encoder.{Encoder}
-use Rattle.recording.specs.Work.{Item, itemsOf}
+use Rattle.recording.specs.Work.{Item, itemsOf, itemsIn}
 use Rattle.recording.specs.Step.{encoder}
 use Rattle.work.specs.Measure.{dataLength}
-use Rattle.block.specs.Given.{itemsIn, Divides, opened, closed, Opens, Closes}
+use Rattle.block.specs.Given.{Divides, opened, closed, Opens, Closes}
 use Rattle.cut.specs.declared.CutSize.{CutSize}
 
 -- a refusal's number and 0, or 0 and the bytes of the block to cut

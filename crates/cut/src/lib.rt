@@ -13,7 +13,8 @@ use work::measure;
 ghost use mathlib.Core.Path.{_≡_};
 ghost use Prim.Native.Nat.{_+_, _≤_, _<_};
 ghost use lib.ListN.{length, drop};
-ghost use Rattle.block.specs.Given.{itemsIn, Divides, closed, Closes};
+ghost use Rattle.recording.specs.Work.{itemsIn};
+ghost use Rattle.block.specs.Given.{Divides, closed, Closes};
 ghost use Rattle.cut.specs.Cut.{sized, cutState, inTail, dataStart, cutOpened, cutClosed, nextTimes, CutOpens, CutCloses};
 ghost use Rattle.cut.specs.Turns.{placed, turned, TurnFits};
 

@@ -1,16 +1,12 @@
--- Bytes one after the other: a part of a list, zeros, and a class that the first byte carries.
+-- Bytes one after the other: zeros, and a class that the first byte carries.
 -- Assumes nothing.
 use Prim.Native.Nat.{ℕ, suc, _+_, _≤_, _<_}
 use mathlib.Core.Path.{_≡_, refl}
 use mathlib.Core.List.{List, [], _∷_, _++_, append-assoc}
 use native.Mathlib.Omega.{arith}
 use lib.ListN.{length, take, drop, getD, set, replicate}
-use lib.Seq.{sets, sets-eq, drop-cons, set-at, getD-at, length-take-le}
+use lib.Seq.{sets, sets-eq, set-at, getD-at, length-take-le}
 use Rattle.loaded.specs.EntryBytes.{carrying}
-
--- the first byte of a part, and the rest
-pub part-more : (n a : ℕ) (s : List ℕ) → a < length s → take (suc n) (drop a s) ≡ getD s a 0 ∷ take n (drop (suc a) s)
-part-more n a s h = rw (drop-cons s a 0 h) refl
 
 -- one zero more
 pub zeros-more : (n m : ℕ) → n ≡ suc m → replicate {A = ℕ} n 0 ≡ 0 ∷ replicate m 0

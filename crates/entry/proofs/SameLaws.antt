@@ -11,6 +11,7 @@ use lib.ListN.{length, take, drop, getD}
 use Rattle.lists.specs.Bytes.{Bytes}
 use Rattle.lists.specs.Same.{same}
 use Rattle.lists.proofs.SameLaws.{same-true, same-self}
+use Rattle.lists.proofs.SetsLaws.{part-more}
 use Rattle.value.specs.Class.{classNumber, classOfAll}
 use Rattle.packed.specs.Packed.{packedLength, packed, unpacked}
 use Rattle.signal.specs.declared.kind.SignalEncoding.{SignalEncoding}
@@ -18,7 +19,6 @@ use Rattle.signal.specs.declared.kind.SignalEncoding.the-variants.{BitVector, R
 use Rattle.signal.specs.declared.decode.ChangeValue.{ChangeValue}
 use Rattle.stream.specs.Entries.{repeats}
 use Rattle.entry.specs.Read.{bitIn, statesIn, bitsIn, packedBefore, wideRead, contentRead, Reads, PackedThere}
-use Rattle.entry.proofs.PartLaws.{part-more}
 use Rattle.entry.proofs.ReadThere.{reads-there}
 
 -- ---- two parts

@@ -15,9 +15,9 @@ use Rattle.stream.specs.Stream.{changeBytes}
 use Rattle.stream.specs.Entries.{Entry, streamBytes}
 use Rattle.image.specs.Block.{Part, Block, partBytes, dataOf, blockBytes}
 use Rattle.image.specs.Image.{streamedPart, streamedParts, streamed, blocksBytes}
+use Rattle.image.proofs.SizeLaws.{block-size}
 use Rattle.codec.specs.Valid.{EntriesFit, OptionFits, PartsFit, topsAfter, firstIndex, BlockFits, BlocksFit}
 use Rattle.codec.proofs.StreamLaws.{change-long}
-use Rattle.codec.proofs.ImageFits.{block-size}
 use Rattle.recording.specs.Calls.{time}
 use Rattle.model.proofs.Rebuild.{bare, bares, front, behind, restOf, callsOf, roundCalls, blockCalls, firstCalls, laterCalls, restCalls, imageCalls}
 

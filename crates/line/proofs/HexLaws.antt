@@ -1,7 +1,7 @@
 -- Bytes of pairs of digits, pair by pair.
 -- Assumes nothing.
 use Prim.Native.Nat.{ℕ, suc, _+_, _*_, _<_, _≤_}
-use mathlib.Core.Path.{_≡_, refl, _∙_}
+use mathlib.Core.Path.{_≡_, refl, ap, _∙_}
 use mathlib.Core.Bool.{Bool, true, false}
 use mathlib.Core.List.{List, [], _∷_}
 use mathlib.Core.Option.{Option, some, none}
@@ -10,9 +10,10 @@ use borrow.Author.Tests.{lt-ltb, le-ltb, ltb-true, ltb-false}
 use lib.Dec.{ltb}
 use lib.ListN.{length, getD, drop, drop-of-length-le}
 use lib.Seq.{drop-cons}
-use Rattle.lists.specs.Choice.{bind, isSome}
+use Rattle.lists.specs.Choice.{bind, isSome, orEmpty}
+use Rattle.lists.proofs.ChoiceLaws.{some-there, none-there}
 use Rattle.line.specs.Numbers.{digitOf, hexBytes}
-use Rattle.line.specs.Command.{orEmpty, bytesIn}
+use Rattle.line.specs.Command.{bytesIn}
 
 drop-two : (s : List ℕ) (i : ℕ) → suc i < length s → drop i s ≡ getD s i 0 ∷ getD s (suc i) 0 ∷ drop (suc (suc i)) s
 drop-two s i h = drop-cons s i 0 (omega arith) ∙ rw (drop-cons s (suc i) 0 h) refl
@@ -90,25 +91,10 @@ pair-at s i bs h e =
 
 -- ---- the bytes
 
-pub hex-none : (s : List ℕ) → isSome (hexBytes s) ≡ false → hexBytes s ≡ none
-hex-none s e = by (hexBytes s) e
-  where
-    by : (o : Option (List ℕ)) → isSome o ≡ false → o ≡ none
-    by none e = refl
-    by (some r) e = cc
-
 pub bytes-some : (s : List ℕ) → isSome (hexBytes s) ≡ true → hexBytes s ≡ some (bytesIn s)
 unfolding bytesIn
-bytes-some s e = by (hexBytes s) e
-  where
-    by : (o : Option (List ℕ)) → isSome o ≡ true → o ≡ some (orEmpty o)
-    by none e = cc
-    by (some r) e = refl
+bytes-some s e = some-there (hexBytes s) e
 
 pub bytes-none : (s : List ℕ) → isSome (hexBytes s) ≡ false → bytesIn s ≡ []
 unfolding bytesIn
-bytes-none s e = by (hexBytes s) e
-  where
-    by : (o : Option (List ℕ)) → isSome o ≡ false → orEmpty o ≡ []
-    by none e = refl
-    by (some r) e = cc
+bytes-none s e = ap orEmpty (none-there (hexBytes s) e)

@@ -9,9 +9,9 @@ use native.Mathlib.Omega.{arith}
 use borrow.Author.Tests.{le-leb, lt-leb, leb-true}
 use lib.Dec.{leb}
 use lib.ListN.{length, set, drop, drop-of-length-le, length-set}
-use Rattle.lists.specs.Choice.{pick, bind, isSome}
+use Rattle.lists.specs.Choice.{pick, bind, isSome, orEmpty}
 use Rattle.lists.specs.Same.{same}
-use Rattle.lists.proofs.ChoiceLaws.{where-some, where-pick, where-bind}
+use Rattle.lists.proofs.ChoiceLaws.{where-some, where-pick, where-bind, some-there, none-there}
 use Rattle.ascii.specs.Ascii.{ascii}
 use Rattle.signal.specs.declared.kind.SignalEncoding.{SignalEncoding}
 use Rattle.signal.specs.declared.kind.SignalEncoding.the-variants.{BitVector, Real, Absent}
@@ -20,7 +20,7 @@ use Rattle.storage.specs.Storage.{Storable, recordsOf}
 use Rattle.storage.proofs.StorageLaws.{kind-width, storable-absent, records-length}
 use Rattle.line.specs.Words.{word, wordsOf}
 use Rattle.line.specs.Line.{number32, vector, kindOf, kindsOf, kindsIn}
-use Rattle.line.specs.Command.{orEmpty, kindList, begun}
+use Rattle.line.specs.Command.{kindList, begun}
 use Rattle.line.proofs.WordLaws.{word-at}
 
 -- ---- one kind
@@ -121,38 +121,19 @@ pub list-some : (l : List ℕ) → isSome (kindsIn l) ≡ true → (length (word
 unfolding kindsIn kindList
 list-some l e = by (leb (length (wordsOf l)) 259) refl e
   where
-    whole : (o : Option (List SignalEncoding)) → isSome o ≡ true → o ≡ some (orEmpty o)
-    whole none e = cc
-    whole (some ks) e = refl
-
     by : (t : Bool) → leb (length (wordsOf l)) 259 ≡ t → isSome (pick t (kindsOf (drop 3 (wordsOf l))) none) ≡ true
         → (length (wordsOf l) ≤ 259) × (kindsOf (drop 3 (wordsOf l)) ≡ some (orEmpty (pick t (kindsOf (drop 3 (wordsOf l))) none)))
-    by true q e = (leb-true (length (wordsOf l)) 259 q, whole (kindsOf (drop 3 (wordsOf l))) e)
+    by true q e = (leb-true (length (wordsOf l)) 259 q, some-there (kindsOf (drop 3 (wordsOf l))) e)
     by false q e = let z : _≡_ {A = ℕ} 0 1 = cc in absurd (omega arith)
 
 -- what a test of the kinds tells
 pub list-kinds : (l : List ℕ) → isSome (kindsIn l) ≡ true → kindsIn l ≡ some (kindList l)
 unfolding kindList
-list-kinds l e = by (kindsIn l) e
-  where
-    by : (o : Option (List SignalEncoding)) → isSome o ≡ true → o ≡ some (orEmpty o)
-    by none e = cc
-    by (some ks) e = refl
-
-pub no-kinds : (l : List ℕ) → isSome (kindsIn l) ≡ false → kindsIn l ≡ none
-no-kinds l e = by (kindsIn l) e
-  where
-    by : (o : Option (List SignalEncoding)) → isSome o ≡ false → o ≡ none
-    by none e = refl
-    by (some ks) e = cc
+list-kinds l e = some-there (kindsIn l) e
 
 pub list-none : (l : List ℕ) → isSome (kindsIn l) ≡ false → kindList l ≡ []
 unfolding kindList
-list-none l e = by (kindsIn l) e
-  where
-    by : (o : Option (List SignalEncoding)) → isSome o ≡ false → orEmpty o ≡ []
-    by none e = refl
-    by (some ks) e = cc
+list-none l e = ap orEmpty (none-there (kindsIn l) e)
 
 -- ---- records
 

@@ -1,9 +1,10 @@
 -- What the answers of the code say, and the parts of a line that they leave in the line.
 -- Assumes nothing.
 use Prim.Native.Nat.{ℕ}
-use mathlib.Core.List.{List, []}
+use mathlib.Core.List.{List}
 use mathlib.Core.Option.{Option, some, none}
 use lib.ListN.{set}
+use Rattle.lists.specs.Choice.{orEmpty}
 use Rattle.value.specs.declared.states.States.the-variants.{Two}
 use Rattle.signal.specs.declared.kind.SignalEncoding.{SignalEncoding}
 use Rattle.recording.specs.declared.SignalRecord.{SignalRecord}
@@ -31,11 +32,6 @@ valueIn32 number32.None = none
 abbrev pub kindInside : MaybeKind → Option SignalEncoding
 kindInside (kind.Some k) = some k
 kindInside kind.None = none
-
--- a list that may be missing; none is empty
-abbrev pub orEmpty : {A : Type 0} → Option (List A) → List A
-orEmpty none = []
-orEmpty (some l) = l
 
 -- the bytes of HEX
 unfoldable pub bytesIn : List ℕ → List ℕ

@@ -11,6 +11,7 @@ use borrow.Author.Tests.{leb-true, lt-ltb}
 use lib.Dec.{ltb}
 use lib.ListN.{length, length-append, length-map}
 use Rattle.lists.specs.Choice.{pick}
+use Rattle.lists.proofs.ChoiceLaws.{pick-one}
 use Rattle.ascii.specs.Ascii.{ascii, digitCode, decimalIn, decimal, hexadecimal}
 use Rattle.packed.specs.Packed.{packedLength}
 use Rattle.signal.specs.declared.kind.SignalEncoding.{SignalEncoding}
@@ -92,14 +93,10 @@ signal-line g k c n f h z m =
 -- ---- a change, its entry and its line
 
 -- an entry has at most four times the bytes of its change
-one-more : (t : Bool) → pick t 1 0 ≤ 1
-one-more true = omega arith
-one-more false = omega arith
-
 wide-most : (w c : ℕ) → c ≤ 2 → wideLength w c ≤ 4 * (1 + packedLength w 0)
-wide-most w zero z = omega (arith, one-more (classByte w 0))
-wide-most w (suc zero) z = omega (arith, one-more (classByte w 1))
-wide-most w (suc (suc zero)) z = omega (arith, one-more (classByte w 2))
+wide-most w zero z = omega (arith, pick-one (classByte w 0))
+wide-most w (suc zero) z = omega (arith, pick-one (classByte w 1))
+wide-most w (suc (suc zero)) z = omega (arith, pick-one (classByte w 2))
 wide-most w (suc (suc (suc c))) z = absurd (omega arith)
 
 pub entry-most : (k : SignalEncoding) (c : ℕ) → c ≤ 2 → entryLength k c ≤ 4 * leastLength k

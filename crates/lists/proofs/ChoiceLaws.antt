@@ -1,9 +1,12 @@
 -- What holds of a value that may be missing, where it is there: said once of a choice and of a chain, and got out again.
 -- Assumes nothing.
+use Prim.Native.Nat.{_≤_}
 use mathlib.Core.Path.{_≡_, refl, subst}
 use mathlib.Core.Bool.{Bool, true, false, _&&_, _||_}
+use mathlib.Core.List.{List}
 use mathlib.Core.Option.{Option, some, none}
-use Rattle.lists.specs.Choice.{pick, bind}
+use native.Mathlib.Omega.{arith}
+use Rattle.lists.specs.Choice.{pick, bind, isSome, orEmpty}
 
 abbrev pub Where : {A : Type 0} → (A → Type 0) → Option A → Type 0
 Where P none = Unit {0}
@@ -25,6 +28,15 @@ module _ {A : Type 0} (P : A → Type 0) where
   where-bind none k f = tt
   where-bind (some x) k f = f x refl
 
+-- what the test tells
+pub some-there : {A : Type 0} (o : Option (List A)) → isSome o ≡ true → o ≡ some (orEmpty o)
+some-there none e = cc
+some-there (some l) e = refl
+
+pub none-there : {A : Type 0} (o : Option A) → isSome o ≡ false → o ≡ none
+none-there none e = refl
+none-there (some x) e = cc
+
 -- two tests that both hold, and two of which none does
 pub both-hold : (a b : Bool) → a && b ≡ true → (a ≡ true) × (b ≡ true)
 both-hold true b e = (refl, e)
@@ -33,3 +45,8 @@ both-hold false b e = (cc, cc)
 pub none-holds : (a b : Bool) → a || b ≡ false → (a ≡ false) × (b ≡ false)
 none-holds false b e = (refl, e)
 none-holds true b e = (cc, cc)
+
+-- one, or nothing
+pub pick-one : (t : Bool) → pick t 1 0 ≤ 1
+pick-one true = omega arith
+pick-one false = omega arith

@@ -1,6 +1,7 @@
 -- A choice by a test, and a value that may be missing.
 -- Assumes nothing.
 use mathlib.Core.Bool.{Bool, true, false}
+use mathlib.Core.List.{List, []}
 use mathlib.Core.Option.{Option, some, none}
 
 -- the first where the test holds, else the second
@@ -16,3 +17,8 @@ bind (some x) k = k x
 abbrev pub isSome : {A : Type 0} → Option A → Bool
 isSome none = false
 isSome (some x) = true
+
+-- a list that may be missing; none is empty
+abbrev pub orEmpty : {A : Type 0} → Option (List A) → List A
+orEmpty none = []
+orEmpty (some l) = l

@@ -18,13 +18,15 @@ use Rattle.stream.specs.Entries.{Entry, streamBytes}
 use Rattle.image.specs.Block.{Part, Block, block, dataOf, partBytes}
 use Rattle.image.specs.Head.{imageLimit}
 use Rattle.image.specs.Image.{streamedParts, streamedPart}
-use Rattle.codec.specs.Valid.{EntriesFit, OptionFits, PartsFit, firstIndex, Filled, BlockFits, BlocksFit}
+use Rattle.codec.specs.Valid.{EntriesFit, OptionFits, PartsFit, firstIndex, BlockFits, BlocksFit}
 use Rattle.codec.proofs.Growth.{parts-count}
+use Rattle.codec.proofs.ImageFits.{filled-small}
 use Rattle.loaded.specs.Opener.{kindAt, blockAt, partAt, streamIn}
 use Rattle.loaded.specs.Loading.{entriesIn, topIn}
 use Rattle.walk.specs.Walk.{Opened, imageIn, blockPlace, BlockHere, PartHere}
 use Rattle.walk.proofs.HeadLaws.{means, head-in}
 use Rattle.walk.proofs.BlockLaws.{here, next-size}
+use Rattle.walk.proofs.PartLaws.{stream-entries}
 use Rattle.entry.specs.Kept.{KeptReads}
 use Rattle.loader.specs.Output.{allTaken, Room, outputAs}
 use Rattle.loader.specs.Blocks.{baseOf, changesIn, topOf}
@@ -54,10 +56,6 @@ block-fits limit ks end tops [] n f h = absurd (omega arith)
 block-fits limit ks end tops (y ∷ bs) zero f h = record { end = end; tops = tops; follow = length bs; fits = f .0 }
 block-fits limit ks end tops (y ∷ bs) (suc n) f h = block-fits limit ks _ _ bs n (f .1) (omega arith)
 
-filled-most : (limit n follow : ℕ) → Filled limit n follow → n ≤ limit
-filled-most limit n zero f = f
-filled-most limit n (suc follow) f = omega arith
-
 pub part-fits : (n i : ℕ) (ks : List SignalEncoding) (tops : List ℕ) (ps : List (Option (Part (List Entry)))) (g : ℕ) → PartsFit n i ks tops ps
     → (before : ℕ) × OptionFits (getD ks g Absent) n i before (getD ps g none)
 part-fits n i [] tops [] g f = (0, tt)
@@ -82,11 +80,6 @@ stream-data (k ∷ ks) [] g e = absurd (omega arith)
 stream-data (k ∷ ks) (none ∷ ps) zero e = omega arith
 stream-data (k ∷ ks) (some p ∷ ps) zero e = omega (arith, length-append (p .top ∷ streamBytes k 0 (p .stream)) (dataOf (streamedParts ks ps)))
 stream-data (k ∷ ks) (p ∷ ps) (suc g) e = omega (arith, length-append (partBytes (streamedPart k p)) (dataOf (streamedParts ks ps)), stream-data ks ps g (omega arith))
-
-stream-in : (k : SignalEncoding) (p : Option (Part (List Entry))) → streamIn k p ≡ streamBytes k 0 (entriesIn p)
-unfolding streamBytes
-stream-in k none = refl
-stream-in k (some p) = refl
 
 -- how long it is
 pub part-size : (b : List ℕ) (number g from to top : ℕ) → PartHere from to top number g b → length (streamIn (kindAt (imageIn b) g) (partAt (blockAt (imageIn b) number) g)) ≡ to - from
@@ -114,10 +107,10 @@ begins b number at g from to top y o h p =
     let q = partAt n g in
     let f : Fitting (x .limit) ks n = block-fits (x .limit) ks none [] (x .blocks) number (m .valid .blocks) (h .exists) in
     let pf = part-fits (length (n .times)) (firstIndex (f .end)) ks (f .tops) (n .parts) g (f .fits .parts) in
-    let s : take (to - from) (drop from b) ≡ streamBytes k 0 (entriesIn q) = p .stream ∙ stream-in k q in
+    let s : take (to - from) (drop from b) ≡ streamBytes k 0 (entriesIn q) = p .stream ∙ stream-entries k q in
     let size : length (streamIn k q) ≡ to - from = part-size b number g from to top p in
-    let ls : length (streamBytes k 0 (entriesIn q)) ≡ to - from = sym (ap length (stream-in k q)) ∙ size in
-    let few : length (n .times) ≤ 65535 = omega (arith, filled-most (x .limit) (length (n .times)) (f .follow) (f .fits .filled), m .valid .high) in
+    let ls : length (streamBytes k 0 (entriesIn q)) ≡ to - from = sym (ap length (stream-entries k q)) ∙ size in
+    let few : length (n .times) ≤ 65535 = omega (arith, filled-small (x .limit) (length (n .times)) (f .follow) (f .fits .filled), m .valid .high) in
     let sd = stream-data ks (n .parts) g (parts-count _ _ ks (f .tops) (n .parts) (f .fits .parts)) in
     let ns = next-size x number (h .exists) in
     let pl = h .place in

@@ -9,18 +9,16 @@ use native.Mathlib.Nat.{mul-le-mul, le-div-iff-mul-le}
 use native.Mathlib.Omega.{arith}
 use borrow.Author.Tests.{leb-true, lt-ltb, le-ltb, ltb-false}
 use lib.Dec.{leb, ltb}
-use lib.ListN.{length, getD, List·getD-eq-default}
+use lib.ListN.{length, List·getD-eq-default}
 use lib.Seq.{sets}
-use Rattle.lists.specs.Choice.{pick}
 use Rattle.lists.specs.Bytes.{Bytes}
-use Rattle.lists.proofs.ChoiceLaws.{none-holds}
+use Rattle.lists.proofs.ChoiceLaws.{none-holds, pick-one}
 use Rattle.signal.specs.declared.kind.SignalEncoding.{SignalEncoding}
 use Rattle.signal.specs.declared.kind.SignalEncoding.the-variants.{BitVector, Real, Absent}
 use Rattle.signal.specs.Kind.{absent, knownKind}
 use Rattle.stream.specs.Entries.{Entry, orNine}
 use Rattle.image.specs.Head.{imageLimit}
 use Rattle.image.specs.Image.{Image}
-use Rattle.codec.specs.Valid.{KnownKinds}
 use Rattle.loaded.specs.Opener.{kindAt}
 use Rattle.loaded.specs.Loading.{Load, loads, signalClass}
 use Rattle.loaded.specs.EntryBytes.{entriesBytes}
@@ -28,7 +26,7 @@ use Rattle.loaded.specs.Reader.{unknownSignal, refuse, loaded, loadAfter, index
 use Rattle.entry.specs.Length.{classByte, wideLength, entryLength}
 use Rattle.entry.proofs.EntriesLaws.{entries-length}
 use Rattle.walk.specs.Walk.{Opened, imageIn}
-use Rattle.walk.proofs.HeadLaws.{means}
+use Rattle.walk.proofs.HeadLaws.{known-at, means}
 use Rattle.loader.specs.Output.{Output, Room, holding, outputAs}
 use Rattle.loader.specs.Sizes.{tooShort, classAnswered}
 use Rattle.loader.specs.Least.{leastLength, streamsLength}
@@ -77,22 +75,13 @@ sized b g y o =
 
 -- ---- the kind
 
-pub known-at : (ks : List SignalEncoding) (g : ℕ) → KnownKinds ks → knownKind (getD ks g Absent) ≡ true
-known-at [] g h = refl
-known-at (k ∷ ks) zero h = h .0
-known-at (k ∷ ks) (suc g) h = known-at ks g (h .1)
-
 pub known : (b : List ℕ) (g : ℕ) → Bytes b → Opened b → knownKind (kindAt (imageIn b) g) ≡ true
 known b g y o = known-at (imageIn b .kinds) g (means b y o .valid .kinds)
 
-one-more : (t : Bool) → pick t 1 0 ≤ 1
-one-more true = omega arith
-one-more false = omega arith
-
 wide-small : (w c : ℕ) → w ≤ 65536 → c ≤ 2 → wideLength w c ≤ 32769
-wide-small w zero h z = omega (arith, one-more (classByte w 0))
-wide-small w (suc zero) h z = omega (arith, one-more (classByte w 1))
-wide-small w (suc (suc zero)) h z = omega (arith, one-more (classByte w 2))
+wide-small w zero h z = omega (arith, pick-one (classByte w 0))
+wide-small w (suc zero) h z = omega (arith, pick-one (classByte w 1))
+wide-small w (suc (suc zero)) h z = omega (arith, pick-one (classByte w 2))
 wide-small w (suc (suc (suc c))) h z = absurd (omega arith)
 
 entry-small : (k : SignalEncoding) (c : ℕ) → knownKind k ≡ true → c ≤ 2 → entryLength k c ≤ 32769

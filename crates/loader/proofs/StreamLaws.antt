@@ -12,25 +12,21 @@ use Rattle.lists.specs.Bytes.{Bytes}
 use Rattle.value.specs.Class.{classOfAll}
 use Rattle.signal.specs.declared.kind.SignalEncoding.{SignalEncoding}
 use Rattle.signal.specs.declared.decode.ChangeValue.{ChangeValue}
-use Rattle.signal.specs.Content.{Content, ContentFits, symbolsOf}
+use Rattle.signal.specs.Content.{symbolsOf}
 use Rattle.stream.specs.declared.read.ReadChange.the-variants as read
 use Rattle.stream.specs.Stream.{Change, change, changeBytes, readChange}
 use Rattle.stream.specs.Answer.{changeAt, readAs}
 use Rattle.stream.specs.Entries.{Entry, streamBytes}
 use Rattle.stream.proofs.StreamTrip.{read-written}
 use Rattle.codec.specs.Valid.{EntryFits, EntriesFit}
+use Rattle.codec.proofs.StreamLaws.{change-long}
 use Rattle.loaded.specs.Loading.{moved}
 use Rattle.entry.specs.Read.{contentRead}
 use Rattle.entry.proofs.ReadThere.{ReadThere, read-there}
 use Rattle.entry.specs.Kept.{KeptReads}
 use Rattle.loader.specs.Output.{Output, taken, allTaken, Room, outputAs}
 use Rattle.loader.specs.declared.changes.Loading.{Loading}
-use Rattle.loader.proofs.LeastLaws.{least-any, change-least}
 use Rattle.loader.proofs.OutputLaws.{Grows, all-grows, taken-grows, room-first}
-
--- a change has a byte
-change-some : (k : SignalEncoding) (d : ℕ) (c : Content) → ContentFits k c → 0 < length (changeBytes k d c)
-change-some k d c f = omega (arith, least-any k, change-least k d c f)
 
 -- from p to `to` stands the stream of entries that are still to come, after a change at the index prev; none is before the index least
 pub record Ahead (k : SignalEncoding) (b : List ℕ) (n top p to : ℕ) : Type 0 where
@@ -82,7 +78,7 @@ module _ (k : SignalEncoding) (b : List ℕ) (n top p to : ℕ) (y : Bytes b) (f
       let c : List ℕ = changeBytes k (x .index - prev) (x .content) in
       let r : List ℕ = streamBytes k (x .index) es in
       let d' : x .index - prev ≡ d = ap (λ (u : Change). u .d) same in
-      let some = change-some k (x .index - prev) (x .content) (f .0 .content) in
+      let some = change-long k (x .index - prev) (x .content) (f .0 .content) in
       let l1 : length (drop p b) ≡ length c + length r + length tail = ap length q ∙ length-append (c ++ r) tail ∙ ap (λ (u : ℕ). u + length tail) (length-append c r) in
       let l2 : length r + length tail ≡ length (drop next b) = sym (length-append r tail) ∙ ap length rest in
       let z' : p + (length c + length r) ≡ to = ap (λ (u : ℕ). p + u) (sym (length-append c r)) ∙ z in
@@ -123,7 +119,7 @@ none-by : (k : SignalEncoding) (n top p to prev least : ℕ) (es : List Entry) �
 unfolding streamBytes
 none-by k n top p to prev least [] z f h = refl
 none-by k n top p to prev least (x ∷ es) z f h =
-    let some = change-some k (x .index - prev) (x .content) (f .0 .content) in
+    let some = change-long k (x .index - prev) (x .content) (f .0 .content) in
     absurd (omega (arith, length-append (changeBytes k (x .index - prev) (x .content)) (streamBytes k (x .index) es)))
 
 pub none-left : (k : SignalEncoding) (b : List ℕ) (n top p to : ℕ) (a : Ahead k b n top p to) → to ≤ p → a .entries ≡ []

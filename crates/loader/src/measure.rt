@@ -1,6 +1,7 @@
 // What the blocks say of a signal without its changes: how many bytes its streams have, and with them how many entries at most, and
 // its class.
 use packed::bytes_required;
+use packed::larger;
 use signal::kind::SignalEncoding;
 use value::states::States;
 use walk::block::first_block;
@@ -8,7 +9,7 @@ use walk::block::next_block;
 use walk::head::block_count;
 use walk::part::part_in;
 ghost use mathlib.Core.Path.{_≡_};
-ghost use Prim.Native.Nat.{_≤_, max};
+ghost use Prim.Native.Nat.{_≤_};
 ghost use Rattle.image.specs.Head.{imageLimit};
 ghost use Rattle.loaded.specs.Opener.{kindAt};
 ghost use Rattle.loaded.specs.Loading.{loads};
@@ -21,15 +22,7 @@ pub struct Measured {
     pub top: u8,
 }
 
-fn larger(a: u8, b: u8) -> u8
-    ensures { λ r. ⌜ r ≡ max a b ⌝ }
-{
-    if b <= a {
-        return a;
-    }
-    b
-}
-
+// Adds the blocks up.
 pub fn measure_blocks(image: &[u8], signal: u32) -> Measured
     requires { ⌜ Opened (now image) ⌝ }
     ensures { λ r. ⌜ (r .bytes ≡ streamsLength (kindAt (imageIn (now (image .entry))) signal) signal (imageIn (now (image .entry)) .blocks)) × (r .top ≡ loads signal (imageIn (now (image .entry)) .blocks) .class) × (r .bytes ≤ imageLimit) ⌝ }

@@ -22,6 +22,7 @@ use Rattle.stream.specs.Entries.{Entry, entry}
 use Rattle.image.specs.Block.{Part, Block, part, block}
 use Rattle.codec.specs.Valid.{RisingFrom, Rising, EntriesFit, OptionFits, topAfter, topsAfter, Begins, firstIndex, Filled, BlockFits, BlocksFit}
 use Rattle.codec.proofs.Growth.{parts-each, parts-count, tops-at}
+use Rattle.codec.proofs.ImageFits.{filled-small}
 use Rattle.recording.specs.Calls.{Call, time, change, finish, above, wayOf}
 use Rattle.history.specs.History.{Change, listOf, topOf}
 use Rattle.model.specs.Model.{Chunk, chunk, Model, model, noModel, cut, modelTime, modelChange, modelStep, tab, partWith, storedOf, imageOf}
@@ -541,10 +542,6 @@ module _ (limit : ℕ) (ks : List SignalEncoding) where
     pub any : 0 < length times
     pub image : imageOf (length ks) [] (blocks ++ chunk times marks ∷ []) ≡ ss
 
-  filled-most : (n follow : ℕ) → Filled limit n follow → n ≤ limit
-  filled-most n zero f = f
-  filled-most n (suc follow) f = omega arith
-
   rest-take : (ss : List (Block (List Entry))) (bs : List Chunk) (ts : List ℕ) (cs : List Change) (tops : List ℕ) → 0 < length ts → Filled limit (length ts) (length ss)
       → ((g : ℕ) → g < length ks → getD tops g 0 ≡ topOf g (seenOf bs ++ cs)) → BlocksFit limit ks (some (lastOr 0 ts)) tops ss
       → Rebuilt (live bs ts cs) (restCalls ks ss) (imageOf (length ks) [] (bs ++ chunk ts cs ∷ []) ++ ss)
@@ -568,7 +565,7 @@ module _ (limit : ℕ) (ks : List SignalEncoding) where
       let st = stored-back (some (lastOr 0 ts)) tops s (length ss) b (seenOf bs′) cs′ e′ o in
       let ih = rest-take ss bs′ (s .times) cs′ (topsAfter tops (s .parts)) (omega (arith, b .begins .0)) (b .filled)
       (tops-back (some (lastOr 0 ts)) tops s (length ss) b (seenOf bs′) cs′ e′ o) (v .1) in
-      let t = later-take s (s .times) bs ts cs k full (b .begins) (b .rising) (filled-most (length (s .times)) (length ss) (b .filled)) (said-all (some (lastOr 0 ts)) tops s (length ss) b) in
+      let t = later-take s (s .times) bs ts cs k full (b .begins) (b .rising) (filled-small limit (length (s .times)) (length ss) (b .filled)) (said-all (some (lastOr 0 ts)) tops s (length ss) b) in
       record {
         blocks = ih .blocks;
         times = ih .times;
@@ -608,7 +605,7 @@ module _ (limit : ℕ) (ks : List SignalEncoding) where
         times = ih .times;
         marks = ih .marks;
         takes = takes-append (firstCalls ks (s .times) (bares (s .parts))) (restCalls ks ss) noModel (live [] (s .times) cs) (live (ih .blocks) (ih .times) (ih .marks))
-            (first-take s (s .times) pos (b .begins) (b .rising) (filled-most (length (s .times)) (length ss) (b .filled)) (said-all none [] s (length ss) b)) (ih .takes);
+            (first-take s (s .times) pos (b .begins) (b .rising) (filled-small limit (length (s .times)) (length ss) (b .filled)) (said-all none [] s (length ss) b)) (ih .takes);
         any = ih .any;
         image = ih .image ∙ ap (λ (x : Block (List Entry)). x ∷ ss) st;
       }

@@ -69,8 +69,8 @@ pub fn unpack(out: &mut [u8], bytes: &[u8], width: u32, states: States)
     }
 }
 
-// The larger of two symbols.
-fn larger(a: u8, b: u8) -> u8
+// The larger of two symbols or classes.
+pub fn larger(a: u8, b: u8) -> u8
     ensures { λ r. ⌜ r ≡ max a b ⌝ }
 {
     if a < b {

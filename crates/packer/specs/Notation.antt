@@ -5,9 +5,9 @@ use mathlib.Core.Path.{_≡_}
 use mathlib.Core.Bool.{true}
 use mathlib.Core.List.{List}
 use lib.ListN.{length}
-use Rattle.lists.specs.Choice.{isSome}
+use Rattle.lists.specs.Choice.{isSome, orEmpty}
 use Rattle.value.specs.Class.{classNumber}
-use Rattle.vcd.specs.Vcd.{textSymbols, orEmpty}
+use Rattle.vcd.specs.Vcd.{textSymbols}
 use Rattle.packed.specs.Packed.{packedLength, unpacked}
 use Rattle.packer.specs.declared.Notation.{Notation}
 use Rattle.packer.specs.declared.Notation.the-variants.{Ascii, Packed}

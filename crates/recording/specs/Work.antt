@@ -6,7 +6,7 @@ use mathlib.Core.List.{List, [], _∷_, _++_}
 use mathlib.Core.Option.{Option, some, none}
 use lib.ListN.{length, take, drop}
 use lib.Dec.{ltb, leb, eqb}
-use Rattle.lists.specs.Choice.{pick, bind}
+use Rattle.lists.specs.Choice.{pick, bind, orEmpty}
 use Rattle.numbers.specs.LittleEndian.{le, unle}
 
 pub record Item : Type 0 where
@@ -41,6 +41,10 @@ itemsOf (suc k) n (x ∷ w) =
     (bind (itemsOf k n (drop (8 + sizeAt (x ∷ w)) (x ∷ w)))
     (λ rs. some (item (signalAt (x ∷ w)) (take (sizeAt (x ∷ w)) (drop 8 (x ∷ w))) ∷ rs)))
     none
+
+-- all records of work that divides so, else none
+abbrev pub itemsIn : (n : ℕ) → List ℕ → List Item
+itemsIn n w = orEmpty (itemsOf (length w) n w)
 
 -- the stream of a signal: its records' bytes, in order
 unfoldable pub gather : (signal : ℕ) → List Item → List ℕ

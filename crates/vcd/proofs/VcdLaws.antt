@@ -11,7 +11,7 @@ use native.Mathlib.Omega.{arith}
 use borrow.Author.Tests.{lt-ltb, le-ltb, ltb-true, ltb-false, leb-true, eq-eqb, ne-eqb, eqb-false}
 use lib.Dec.{ltb, leb, eqb}
 use lib.ListN.{length, getD, drop, length-map}
-use Rattle.lists.specs.Choice.{pick, bind, isSome}
+use Rattle.lists.specs.Choice.{pick, bind, isSome, orEmpty}
 use Rattle.lists.proofs.ChoiceLaws.{Where, where-some, where-map, where-pick, where-bind, both-hold, none-holds}
 use Rattle.value.specs.Symbol.{symbolOf, letters, maybeBit, orNumber}
 use Rattle.value.specs.Class.{statesOf, classOfAll, allSymbols}
@@ -23,7 +23,7 @@ use Rattle.value.specs.declared.states.MaybeStates.the-variants.{Some, None}
 use Rattle.value.specs.declared.change.BitVecChange.the-variants.{SingleBit, MultiBit, Bad}
 use Rattle.value.proofs.SymbolLaws.{letter-symbol}
 use Rattle.lists.specs.Last.{lastOr}
-use Rattle.vcd.specs.Vcd.{symbolsIn, vcdBit, withoutB, without0b, textOf, extended, textSymbols, vcdSymbols, asciiStates, orEmpty}
+use Rattle.vcd.specs.Vcd.{symbolsIn, vcdBit, withoutB, without0b, textOf, extended, textSymbols, vcdSymbols, asciiStates}
 use Rattle.vcd.proofs.SymbolsLaws.{Symbols, symbols-more, symbols-is, symbols-of, symbols-number}
 use Rattle.vcd.proofs.ExtendedLaws.{Extended, extended-is, extended-some}
 

@@ -61,8 +61,3 @@ asciiStates (some s) = Some (statesOf (classOfAll s))
 unfoldable pub allDigits : List ℕ → Bool
 allDigits [] = true
 allDigits (b ∷ v) = isDigit b && allDigits v
-
--- the symbols of a good text
-abbrev pub orEmpty : Option (List ℕ) → List ℕ
-orEmpty none = []
-orEmpty (some s) = s

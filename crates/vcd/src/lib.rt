@@ -15,9 +15,9 @@ ghost use mathlib.Core.Path.{_≡_};
 ghost use mathlib.Core.Bool.{true};
 ghost use Prim.Native.Nat.{_<_};
 ghost use lib.ListN.{getD};
-ghost use Rattle.lists.specs.Choice.{isSome};
+ghost use Rattle.lists.specs.Choice.{isSome, orEmpty};
 ghost use Rattle.value.specs.Change.{changeOf};
-ghost use Rattle.vcd.specs.Vcd.{withoutB, without0b, textOf, textSymbols, vcdBit, vcdSymbols, symbolsIn, asciiStates, allDigits, orEmpty};
+ghost use Rattle.vcd.specs.Vcd.{withoutB, without0b, textOf, textSymbols, vcdBit, vcdSymbols, symbolsIn, asciiStates, allDigits};
 
 // The value without one leading `b` or `B`.
 fn without_b(value: &[u8]) -> &[u8]

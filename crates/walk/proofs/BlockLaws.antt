@@ -16,12 +16,10 @@ use Rattle.stream.specs.Entries.{Entry}
 use Rattle.image.specs.Block.{Part, Block, block, les, dataOf, offsetsFrom, blockSize, blockBytes}
 use Rattle.image.specs.Head.{headSize, imageLimit}
 use Rattle.image.specs.Image.{Image, streamedParts, streamed, blocksBytes}
-use Rattle.codec.specs.Layout.{lengthsIn}
+use Rattle.image.proofs.SizeLaws.{length-les, length-offsets, block-size}
 use Rattle.codec.specs.Valid.{EachBelow, BlocksFit}
 use Rattle.codec.proofs.Trip.{Means}
 use Rattle.codec.proofs.WrittenOut.{count-streamed}
-use Rattle.codec.proofs.LayoutLaws.{offsets-parts, count-parts, count-offsets}
-use Rattle.codec.proofs.ImageFits.{length-les, block-size}
 use Rattle.codec.proofs.Growth.{blocks-append, blocks-one}
 use Rattle.loaded.specs.Opener.{blockAt}
 use Rattle.walk.specs.Walk.{Opened, imageIn, blockPlace, partsIn, dataPlace, BlockHere}
@@ -78,9 +76,6 @@ pub record InBlock (b : List ℕ) (at s : ℕ) (ts : List ℕ) (ps : List (Optio
   pub bytes : Stands b (at + blockSize s (length ts) 0) (dataOf ps)
   pub most : at + blockSize s (length ts) (length (dataOf ps)) ≤ length b
 
-pub count-of : (a : ℕ) (ps : List (Option (Part (List ℕ)))) → length (offsetsFrom a ps) ≡ length ps
-count-of a ps = ap length (offsets-parts a ps) ∙ count-offsets a (lengthsIn ps) ∙ count-parts ps
-
 inside : (b : List ℕ) (at : ℕ) (y : Block (List ℕ)) → length b ≤ imageLimit → Stands b at (blockBytes y)
     → InBlock b at (length (y .parts)) (y .times) (y .parts)
 unfolding blockBytes
@@ -95,8 +90,8 @@ inside b at y h w =
     let r2 : List ℕ = le 4 s ++ r3 in
     let r1 : List ℕ = le 4 t ++ r2 in
     let most : at + z ≤ length b = omega (arith, w .inside, block-size y) in
-    let lo : length o ≡ 4 * s = length-les 4 (offsetsFrom 0 (y .parts)) ∙ omega (arith, count-of 0 (y .parts)) in
-    let lt : length (les 8 (y .times)) ≡ 8 * t = length-les 8 (y .times) ∙ omega arith in
+    let lo : length o ≡ 4 * s = length-les 4 (offsetsFrom 0 (y .parts)) ∙ rw (length-offsets 0 (y .parts)) refl in
+    let lt : length (les 8 (y .times)) ≡ 8 * t = length-les 8 (y .times) in
     let s0 : Stands b at (le 4 z ++ r1) = w in
     let s1 : Stands b (at + 4) (le 4 t ++ r2) = stands-back b at 4 (le 4 z) r1 (length-le 4 z) s0 in
     let s2 : Stands b (at + 4 + 4) (le 4 s ++ r3) = stands-back b (at + 4) 4 (le 4 t) r2 (length-le 4 t) s1 in

@@ -85,7 +85,7 @@ head-in b y o = head-at b (imageIn b) (means b y o)
 
 -- ---- kinds
 
-known-at : (ks : List SignalEncoding) (g : ℕ) → KnownKinds ks → knownKind (getD ks g Absent) ≡ true
+pub known-at : (ks : List SignalEncoding) (g : ℕ) → KnownKinds ks → knownKind (getD ks g Absent) ≡ true
 known-at [] g h = refl
 known-at (k ∷ ks) zero h = h .0
 known-at (k ∷ ks) (suc g) h = known-at ks g (h .1)

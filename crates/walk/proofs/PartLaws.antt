@@ -17,6 +17,7 @@ use Rattle.stream.specs.Entries.{Entry, streamBytes}
 use Rattle.image.specs.Block.{Part, Block, block, partBytes, dataOf, offsetsFrom, blockSize}
 use Rattle.image.specs.Head.{imageLimit}
 use Rattle.image.specs.Image.{Image, streamedPart, streamedParts}
+use Rattle.image.proofs.SizeLaws.{length-offsets}
 use Rattle.form.specs.Decide.{false-true}
 use Rattle.form.proofs.WholeLaws.{none-some}
 use Rattle.codec.specs.Valid.{BlocksFit}
@@ -24,11 +25,11 @@ use Rattle.codec.specs.Parse.{parse}
 use Rattle.codec.proofs.WrittenOut.{count-streamed}
 use Rattle.codec.proofs.Growth.{parts-count}
 use Rattle.loaded.specs.Opener.{kindAt, blockAt, partAt, streamIn, streamFrom, streamOf}
-use Rattle.loaded.specs.Loading.{topIn}
+use Rattle.loaded.specs.Loading.{entriesIn, topIn}
 use Rattle.walk.specs.Walk.{Opened, imageFrom, imageIn, blockPlace, partsIn, dataPlace, partPlace, partThere, BlockHere, PartHere}
 use Rattle.walk.proofs.StandLaws.{Stands, stands-front, stands-back, Number, stands-number, stands-nth}
 use Rattle.walk.proofs.HeadLaws.{means, head-in}
-use Rattle.walk.proofs.BlockLaws.{here, next-size, count-of}
+use Rattle.walk.proofs.BlockLaws.{here, next-size}
 
 -- ---- parts as bytes
 
@@ -100,6 +101,12 @@ kept-by g ps (some q) e =
 kept : (g : ℕ) (ps : List (Option (Part (List ℕ)))) → Kept (getD (offsetsFrom 0 ps) g 0) g ps
 kept g ps = kept-by g ps (getD ps g none) refl
 
+-- the stream of a signal is that of its entries
+pub stream-entries : (k : SignalEncoding) (p : Option (Part (List Entry))) → streamIn k p ≡ streamBytes k 0 (entriesIn p)
+unfolding streamBytes
+stream-entries k none = refl
+stream-entries k (some p) = refl
+
 -- ---- at a place where a block begins
 
 pub offset-read : (n at g : ℕ) (b : List ℕ) → Bytes b → Opened b → BlockHere n at b → g < length (imageIn b .kinds)
@@ -108,7 +115,7 @@ offset-read n at g b y o h k =
     let x = imageIn b in
     let ps = partsIn x n in
     let i = here n at b y o h in
-    let c = count-of 0 ps in
+    let c = length-offsets 0 ps in
     let s = count-streamed (x .kinds) (blockAt x n .parts) in
     let w = stands-nth 4 (offsetsFrom 0 ps) b (at + 12) g (omega arith) (i .offsets) in
     let e : at + 12 + g * 4 ≡ at + 12 + 4 * g = omega arith in

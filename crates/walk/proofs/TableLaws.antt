@@ -17,8 +17,8 @@ use Rattle.stream.specs.Entries.{Entry}
 use Rattle.image.specs.Block.{Block, block, blockBytes}
 use Rattle.image.specs.Head.{imageLimit}
 use Rattle.image.specs.Image.{Image, streamed, blocksBytes}
+use Rattle.image.proofs.SizeLaws.{block-size}
 use Rattle.codec.specs.Valid.{Begins, BlocksFit}
-use Rattle.codec.proofs.ImageFits.{block-size}
 use Rattle.loaded.specs.Opener.{blockAt}
 use Rattle.loaded.specs.Loading.{joinTimes, tableFrom}
 use Rattle.loaded.specs.Reader.{refuse, counted, tableAfter, tableIn}

@@ -11,13 +11,14 @@ use native.Mathlib.Nat.{add-zero, zero-add}
 use native.Mathlib.Omega.{arith}
 use borrow.Author.Tests.{eq-eqb, ne-eqb}
 use lib.Dec.{eqb}
-use lib.ListN.{length, take, drop, length-append, length-take, length-drop}
+use lib.ListN.{length, take, drop, length-append, length-drop}
 use lib.Seq.{length-take-le}
-use Rattle.lists.specs.Choice.{pick, isSome}
+use Rattle.lists.specs.Choice.{pick, isSome, orEmpty}
+use Rattle.lists.proofs.ChoiceLaws.{some-there}
 use Rattle.numbers.specs.LittleEndian.{unle}
-use Rattle.recording.specs.Work.{Item, item, signalAt, sizeAt, itemsOf, gather}
+use Rattle.recording.specs.Work.{Item, item, signalAt, sizeAt, itemsOf, itemsIn, gather}
 use Rattle.work.specs.Measure.{partLength, dataLength, measured}
-use Rattle.work.specs.Counting.{total, sum, sign, changed, fresh, scanned, orNone}
+use Rattle.work.specs.Counting.{total, sum, sign, changed, fresh, scanned}
 use Rattle.work.specs.declared.Measured.the-variants as measure
 use Rattle.work.specs.declared.Scanned.{Scanned}
 use Rattle.work.specs.declared.Scanned.the-variants.{Sums, Damaged}
@@ -228,12 +229,8 @@ onward-turn m m' k n p base a c s z r w es ez h b l f q =
 
 -- ---- the records of work that divides
 
-pub records-there : (o : Option (List Item)) → isSome o ≡ true → o ≡ some (orNone o)
-records-there none h = let z : _≡_ {A = ℕ} 0 1 = cc in absurd (omega arith)
-records-there (some is) h = refl
-
-pub records-below : (n : ℕ) (w : List ℕ) → isSome (itemsOf (length w) n w) ≡ true → Below n (orNone (itemsOf (length w) n w))
-records-below n w h = items-below (length w) n w (orNone (itemsOf (length w) n w)) (records-there (itemsOf (length w) n w) h)
+pub records-below : (n : ℕ) (w : List ℕ) → isSome (itemsOf (length w) n w) ≡ true → Below n (itemsIn n w)
+records-below n w h = items-below (length w) n w (itemsIn n w) (some-there (itemsOf (length w) n w) h)
 
 -- ---- the answer
 
@@ -241,7 +238,7 @@ pub scan-divides : (x y base : ℕ) (o : Option (List Item)) → Sums x y ≡ sc
 scan-divides x y base none e = let z : _≡_ {A = ℕ} 0 1 = cc in absurd (omega arith)
 scan-divides x y base (some is) e = refl
 
-pub scan-sums : (x y base : ℕ) (o : Option (List Item)) → Sums x y ≡ scanned base o → (x ≡ total (orNone o)) × (y ≡ changed base 65536 (orNone o))
+pub scan-sums : (x y base : ℕ) (o : Option (List Item)) → Sums x y ≡ scanned base o → (x ≡ total (orEmpty o)) × (y ≡ changed base 65536 (orEmpty o))
 scan-sums x y base none e = let z : _≡_ {A = ℕ} 0 1 = cc in absurd (omega arith)
 scan-sums x y base (some is) e = (cc, cc)
 
@@ -249,7 +246,7 @@ pub scan-damaged : (base : ℕ) (o : Option (List Item)) → Damaged ≡ scanned
 scan-damaged base none e h = let z : _≡_ {A = ℕ} 0 1 = cc in absurd (omega arith)
 scan-damaged base (some is) e h = let z : _≡_ {A = ℕ} 0 1 = cc in absurd (omega arith)
 
-pub measured-data : (n x y z : ℕ) (o : Option (List Item)) → Sums x y ≡ scanned 0 o → z ≡ changed 65536 (n - 65536) (orNone o) → Below n (orNone o)
+pub measured-data : (n x y z : ℕ) (o : Option (List Item)) → Sums x y ≡ scanned 0 o → z ≡ changed 65536 (n - 65536) (orEmpty o) → Below n (orEmpty o)
     → measure.Data (x + y + z) ≡ measured n o
 measured-data n x y z none e f h = let z : _≡_ {A = ℕ} 0 1 = cc in absurd (omega arith)
 measured-data n x y z (some is) e f h =

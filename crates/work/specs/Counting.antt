@@ -36,7 +36,3 @@ fresh m base is = sum (λ i. pick (m i) 0 (sign (length (gather (base + i) is)))
 abbrev pub scanned : (base : ℕ) → Option (List Item) → Scanned
 scanned base none = Damaged
 scanned base (some is) = Sums (total is) (changed base 65536 is)
-
-abbrev pub orNone : Option (List Item) → List Item
-orNone none = []
-orNone (some is) = is

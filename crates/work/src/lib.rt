@@ -6,9 +6,9 @@ ghost use Prim.Native.Nat.{ℕ, _+_, _-_, _≤_};
 ghost use lib.ListN.{length};
 ghost use Rattle.lists.specs.Choice.{isSome};
 ghost use Rattle.marks.specs.Marks.{markAt};
-ghost use Rattle.recording.specs.Work.{Item, item, itemsOf};
+ghost use Rattle.recording.specs.Work.{Item, item, itemsOf, itemsIn};
 ghost use Rattle.work.specs.Measure.{measured};
-ghost use Rattle.work.specs.Counting.{scanned, orNone, changed, fresh};
+ghost use Rattle.work.specs.Counting.{scanned, changed, fresh};
 use marks::is_marked;
 use marks::mark;
 use numbers::little_endian::get_u32;
@@ -81,7 +81,7 @@ fn scan(work: &[u8], signals: u32, base: u64) -> Scanned
 // How many of the 65,536 signals from `base` on have stream bytes.
 fn count_window(work: &[u8], signals: u32, base: u64) -> u64
     requires { ⌜ isSome (itemsOf (length (now work)) signals (now work)) ≡ true ⌝ }
-    ensures { λ r. ⌜ r ≡ changed base 65536 (orNone (itemsOf (length (now (work .entry))) signals (now (work .entry)))) ⌝ }
+    ensures { λ r. ⌜ r ≡ changed base 65536 (itemsIn signals (now (work .entry))) ⌝ }
 {
     match scan(work, signals, base) {
         Scanned::Sums(_, count) => count,
@@ -92,7 +92,7 @@ fn count_window(work: &[u8], signals: u32, base: u64) -> u64
 // How many of the signals from 65,536 on have stream bytes, by a pass for each 65,536 of them; a lawful recording has none.
 fn count_later(work: &[u8], signals: u32) -> u64
     requires { ⌜ isSome (itemsOf (length (now work)) signals (now work)) ≡ true ⌝ }
-    ensures { λ r. ⌜ r ≡ changed 65536 (signals - 65536) (orNone (itemsOf (length (now (work .entry))) signals (now (work .entry)))) ⌝ }
+    ensures { λ r. ⌜ r ≡ changed 65536 (signals - 65536) (itemsIn signals (now (work .entry))) ⌝ }
 {
     let mut count: u64 = 0;
     let mut base: u64 = 65536;

@@ -1,7 +1,8 @@
 -- In the part of the image that is lent.
 -- Assumes nothing.
 use native.Mathlib.Omega.{arith}
-use Rattle.block.specs.Given.{itemsIn, closed}
+use Rattle.recording.specs.Work.{itemsIn}
+use Rattle.block.specs.Given.{closed}
 use Rattle.cut.specs.Cut.{dataStart}
 use Rattle.cut.proofs.TurnLaws.{tail-done}
 use Rattle.cut.proofs.CutLaws.{close-asked}

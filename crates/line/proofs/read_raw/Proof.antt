@@ -5,13 +5,13 @@ use mathlib.Core.Path.{_≡_, refl, sym, ap, _∙_}
 use mathlib.Core.List.{List}
 use mathlib.Core.Option.{some}
 use Rattle.lists.specs.Choice.{isSome}
+use Rattle.lists.proofs.ChoiceLaws.{none-there}
 use Rattle.line.specs.Words.{after, word}
 use Rattle.line.specs.Numbers.{hexBytes}
-use Rattle.line.specs.Line.{number32}
-use Rattle.line.specs.Line.{rawOf}
+use Rattle.line.specs.Line.{number32, rawOf}
 use Rattle.line.specs.Command.{shown}
 use Rattle.line.proofs.CallLaws.{number32-read}
-use Rattle.line.proofs.HexLaws.{bytes-some, hex-none}
+use Rattle.line.proofs.HexLaws.{bytes-some}
 use borrow.Author.Needs.{needs}
 use Rattle.line.proofs.read_raw.Statement.{statement}
 use Rattle.line.proofs.read_raw.Tie as tie
@@ -70,7 +70,7 @@ returns-4 : tie.Need-returns-4
 unfolding shown rawOf
 returns-4 c =
     let e = sym (c .before .is-hex .ensures ∙ ap (λ (s : List ℕ). isSome (hexBytes s)) (c .before .before .after .ensures)) ∙ c .if1 .left in
-    rw (signal-read (c .before .before .before .before .before .before .before .before), claim-read (c .before .before .before), hex-none (after 3 (c .before .before .before .before .before .before .before .before .before .before .before .before .before .before .args .line .now)) e) refl
+    rw (signal-read (c .before .before .before .before .before .before .before .before), claim-read (c .before .before .before), none-there (hexBytes (after 3 (c .before .before .before .before .before .before .before .before .before .before .before .before .before .before .args .line .now))) e) refl
 
 pub read-raw-spec : {M : Type 1} → statement M
 read-raw-spec =

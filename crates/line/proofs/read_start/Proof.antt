@@ -2,12 +2,12 @@
 -- Assumes nothing.
 use mathlib.Core.Path.{_≡_, refl, sym, _∙_}
 use mathlib.Core.Option.{some}
+use Rattle.lists.proofs.ChoiceLaws.{none-there}
 use Rattle.line.specs.Words.{word}
-use Rattle.line.specs.Line.{number32}
-use Rattle.line.specs.Line.{startOf}
+use Rattle.line.specs.Line.{number32, kindsIn, startOf}
 use Rattle.line.specs.Command.{shown}
 use Rattle.line.proofs.CallLaws.{number32-read}
-use Rattle.line.proofs.KindLaws.{list-kinds, no-kinds}
+use Rattle.line.proofs.KindLaws.{list-kinds}
 use borrow.Author.Needs.{needs}
 use Rattle.line.proofs.read_start.Statement.{statement}
 use Rattle.line.proofs.read_start.Tie as tie
@@ -59,7 +59,7 @@ returns-3 c = rw (signals-read (c .before .before .before .before .before .befor
 
 returns-4 : tie.Need-returns-4
 unfolding shown startOf
-returns-4 c = rw (signals-read (c .before .before .before .before .before .before .before), limit-read (c .before .before), no-kinds (c .before .before .before .before .before .before .before .before .before .before .before .before .before .args .line .now) (sym (c .before .has-kinds .ensures) ∙ c .if1 .left)) refl
+returns-4 c = rw (signals-read (c .before .before .before .before .before .before .before), limit-read (c .before .before), none-there (kindsIn (c .before .before .before .before .before .before .before .before .before .before .before .before .before .args .line .now)) (sym (c .before .has-kinds .ensures) ∙ c .if1 .left)) refl
 
 pub read-start-spec : {M : Type 1} → statement M
 read-start-spec =

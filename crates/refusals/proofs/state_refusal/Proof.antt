@@ -1,6 +1,5 @@
 use mathlib.Core.Path.{sym, _∙_}
 use native.Mathlib.Omega.{arith}
-use borrow.Author.Tests.{lt-ltb, le-ltb, le-leb, lt-leb, eq-eqb, ne-eqb}
 use Rattle.recording.specs.Refusals.{stateTests}
 use Rattle.refusals.proofs.StateLaws.{limits-past}
 use Rattle.refusals.proofs.TestsLaws.{tests}

@@ -3,7 +3,8 @@ use mathlib.Core.Path.{refl, sym, _∙_}
 use native.Mathlib.Omega.{arith}
 use borrow.Author.Tests.{lt-ltb, le-ltb}
 use borrow.Author.Needs.{needs}
-use Rattle.vcd.specs.Vcd.{textSymbols, orEmpty}
+use Rattle.lists.specs.Choice.{orEmpty}
+use Rattle.vcd.specs.Vcd.{textSymbols}
 use Rattle.vcd.proofs.VcdLaws.{Text, text-good}
 use Rattle.vcd.proofs.extended_symbol.Statement.{statement}
 use Rattle.vcd.proofs.extended_symbol.Tie as tie

@@ -8,11 +8,12 @@ use borrow.Author.Needs.{needs}
 use native.Mathlib.Omega.{arith}
 use lib.ListN.{length}
 use Rattle.lists.specs.Choice.{isSome}
-use Rattle.recording.specs.Work.{Item, itemsOf}
-use Rattle.work.specs.Counting.{scanned, orNone}
+use Rattle.lists.proofs.ChoiceLaws.{some-there}
+use Rattle.recording.specs.Work.{Item, itemsOf, itemsIn}
+use Rattle.work.specs.Counting.{scanned}
 use Rattle.work.specs.declared.Scanned.the-variants.{Sums}
 use Rattle.work.proofs.WorkLaws.{items-bytes}
-use Rattle.work.proofs.MeasureLaws.{scan-divides, scan-sums, records-there, records-below, changed-le, measured-data, measured-damaged}
+use Rattle.work.proofs.MeasureLaws.{scan-divides, scan-sums, records-below, changed-le, measured-data, measured-damaged}
 use Rattle.work.proofs.measure.Statement.{statement}
 use Rattle.work.proofs.measure.Tie as tie
 
@@ -33,8 +34,8 @@ small c =
     let a = c .before .before .before .before .before .args in
     let o = items (a .signals) (a .work .now) in
     let s = scan-sums _ _ 0 o (found c) in
-    let b = items-bytes (length (a .work .now)) (a .signals) (a .work .now) (orNone o) (records-there o (divides c)) in
-    omega (arith, s .0, s .1, b, changed-le 0 65536 (orNone o))
+    let b = items-bytes (length (a .work .now)) (a .signals) (a .work .now) (itemsIn (a .signals) (a .work .now)) (some-there o (divides c)) in
+    omega (arith, s .0, s .1, b, changed-le 0 65536 (itemsIn (a .signals) (a .work .now)))
 
 scan-requires : tie.Need-scan-requires
 scan-requires c κs = search needs
@@ -51,7 +52,7 @@ count-later-requires c κs = divides c
 add-t9 : tie.Need-add-t9
 add-t9 c =
     let a = c .before .before .before .before .before .before .args in
-    omega (arith, small (c .before), c .count-later .ensures, changed-le 65536 (a .signals - 65536) (orNone (items (a .signals) (a .work .now))))
+    omega (arith, small (c .before), c .count-later .ensures, changed-le 65536 (a .signals - 65536) (itemsIn (a .signals) (a .work .now)))
 
 enum-told : tie.Need-enum-told
 enum-told c = search needs

@@ -8,7 +8,7 @@ use native.Mathlib.Nat.{add-zero, sub-zero}
 use native.Mathlib.Numerals.{add-one}
 use lib.ListN.{length, take, drop, length-set}
 use lib.Seq.{sets}
-use Rattle.block.proofs.PassLaws.{part-more}
+use Rattle.lists.proofs.SetsLaws.{part-more}
 use Rattle.block.proofs.pass.copy_bytes.Statement.{statement}
 use Rattle.block.proofs.pass.copy_bytes.Tie as tie
 

@@ -7,9 +7,8 @@ use mathlib.Core.List.{List}
 use mathlib.Core.Option.{some}
 use native.Mathlib.Omega.{arith}
 use lib.ListN.{length, drop}
-use Rattle.recording.specs.Work.{Item, itemsOf}
+use Rattle.recording.specs.Work.{Item, itemsOf, itemsIn}
 use Rattle.work.proofs.WorkLaws.{Turn, turn, end}
-use Rattle.block.specs.Given.{itemsIn}
 use Rattle.block.specs.Passes.{count, Counts}
 use Rattle.block.proofs.PassLaws.{count-none, CountTurn, record-inside, record-below, record-again, record-count}
 use Rattle.block.proofs.pass.count_bytes.Statement.{statement}

@@ -7,9 +7,8 @@ use mathlib.Core.List.{List}
 use mathlib.Core.Option.{some}
 use native.Mathlib.Omega.{arith}
 use lib.ListN.{length, take, drop}
-use Rattle.recording.specs.Work.{Item, itemsOf}
+use Rattle.recording.specs.Work.{Item, itemsOf, itemsIn}
 use Rattle.work.proofs.WorkLaws.{Turn, turn, end}
-use Rattle.block.specs.Given.{itemsIn}
 use Rattle.block.specs.Passes.{scatter, Scatters}
 use Rattle.block.proofs.PassLaws.{record-inside, record-below, record-again, scatter-none, ScatterTurn, record-scatter}
 use Rattle.block.proofs.pass.scatter_work.Statement.{statement}

@@ -5,7 +5,7 @@ use native.Mathlib.Nat.{add-zero, sub-zero}
 use native.Mathlib.Omega.{arith}
 use lib.ListN.{length, take, drop, length-set}
 use lib.Seq.{sets}
-use Rattle.entry.proofs.PartLaws.{part-more}
+use Rattle.lists.proofs.SetsLaws.{part-more}
 use Rattle.entry.proofs.put.put_part.Statement.{statement}
 use Rattle.entry.proofs.put.put_part.Tie as tie
 

@@ -1,6 +1,6 @@
 -- By the kind.
 use Prim.Native.Nat.{ℕ, _+_, _/_}
-use mathlib.Core.Path.{_≡_, _∙_, ap, ap₂}
+use mathlib.Core.Path.{_∙_, ap, ap₂}
 use native.Mathlib.Omega.{arith}
 use Rattle.value.specs.declared.states.States.{States}
 use Rattle.signal.specs.declared.decode.ChangeValue.the-variants as value
