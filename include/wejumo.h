@@ -264,8 +264,8 @@ wejumo_load_answer wejumo_load(const uint8_t *image, size_t image_length, uint32
 wejumo_table_answer wejumo_table(const uint8_t *image, size_t image_length,
                                  uint64_t *out, size_t out_length);
 
-/* The place of a signal's stream of a block in the image, after its class byte. Of length 0 where the opener refuses, the block or
- * the signal does not exist, or it has no changes there. */
+/* The place of a signal's stream of a block in the image, after its class byte. At 0 and of length 0 where the opener refuses, the block
+ * or the signal does not exist, or it has no changes there. Blocks are walked from the first to the one asked for. */
 wejumo_part wejumo_stream(const uint8_t *image, size_t image_length, uint32_t block, uint32_t signal);
 
 /* The last entry of a signal at or before a time; before the first, the first. Refused with 11, 4, 9: the symbol buffer is shorter than the

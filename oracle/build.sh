@@ -129,7 +129,8 @@ END
 features=
 if [ -n "${WEJUMO_LIB-}" ]; then
     features='--features differential'
-    export WEJUMO_LIB=$(cd "$WEJUMO_LIB" && pwd)
+    WEJUMO_LIB=$(cd "$WEJUMO_LIB" && pwd)
+    export WEJUMO_LIB
 fi
 (cd "$build" && cargo build --quiet --offline --bins $features --target-dir "$build/target")
 cp "$build/target/debug/oracle" "$build/oracle"

@@ -9,7 +9,6 @@ set -euo pipefail
 
 root=$(cd "$(dirname "$0")/.." && pwd)
 build=$root/target/oracle
-library=$root/target/staticlib/libinterface.a
 mkdir -p "$build"
 
 # logged NAME COMMAND ..: what it writes is kept, and shown where it fails.
@@ -25,10 +24,7 @@ logged() {
 
 logged packages "$root/oracle/build.sh" packages
 
-# One build of the library serves all tests of a run.
-if [ ! -f "$library" ] || [ -n "$(cd "$root" && find crates crates.txt -newer "$library" -print -quit)" ]; then
-    (cd "$root" && logged library rt staticlib interface)
-fi
-logged build env ORACLE_BUILD="$build" WEJUMO_LIB="${library%/*}" "$root/oracle/build.sh"
+logged library "$root/bindings/library"
+logged build env ORACLE_BUILD="$build" WEJUMO_LIB="$root/target/staticlib" "$root/oracle/build.sh"
 grep -E '^[-+][^-+]' "$build/build.log" # what differs from the Rust's sources
 exec "$build/differential" "$@"

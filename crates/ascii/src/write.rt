@@ -5,6 +5,7 @@ ghost use Prim.Native.Nat.{_<_};
 ghost use Rattle.ascii.specs.Ascii.{digitCode, decimal, hexadecimal};
 ghost use Rattle.ascii.specs.Put.{Room, Puts};
 
+// Writes a text from a place on, and answers the place after it.
 pub fn put_text(out: &mut [u8], at: usize, text: &[u8]) -> usize
     requires { ⌜ Room (now text) at (now out) ⌝ }
     ensures { λ r. ⌜ Puts (now (text .entry)) at (now (out .entry)) r (now (out .exit)) ⌝ }

@@ -2,7 +2,7 @@
 -- Assumes nothing.
 use Prim.Native.Nat.{ℕ, zero, suc, _+_, _*_, _≤_, _<_}
 use mathlib.Core.Path.{_≡_, refl, sym, ap, _∙_}
-use mathlib.Core.Bool.{Bool, true, false}
+use mathlib.Core.Bool.{Bool}
 use mathlib.Core.List.{List, [], _∷_}
 use mathlib.Core.Option.{Option, some, none}
 use native.Mathlib.Omega.{arith}
@@ -12,6 +12,7 @@ use Rattle.lists.specs.Bytes.{Bytes}
 use Rattle.lists.specs.Choice.{pick}
 use Rattle.lists.specs.Got.{Got, bad, got}
 use Rattle.lists.proofs.BytesLaws.{drop-bytes}
+use Rattle.lists.proofs.ChoiceLaws.{pick-same}
 use Rattle.signal.specs.declared.kind.SignalEncoding.{SignalEncoding}
 use Rattle.stream.specs.Entries.{Entry}
 use Rattle.image.specs.Block.{Part, Block, block}
@@ -102,10 +103,6 @@ module _ (end : Option ℕ) (ks : Signals) (s : List ℕ) (at n : ℕ) where
       ap (λ (g : Got (List ℕ)). andThen (andThen {B = List ℕ × List OPart} (andThen g (λ x r. gotIf (ifYes (both (begins? end x) (rising? x)) x) r)) (λ t r. andThen {B = List ℕ × List OPart} (each (walkPart n (firstIndex end)) ks l .get r) (λ ps q. got (t, ps) q)))
       (λ x q. gotIf (some (block (x .0) (x .1))) q)) (uints-short 8 n s at j h)
 
-  none-yes : (t : Bool) → bad ≡ pick {A = Got (Block (List Entry))} t bad bad
-  none-yes true = refl
-  none-yes false = refl
-
   finish-got : (t : List ℕ) (g : Got (List OPart)) → blockGot t g ≡ finish t (ofGot 0 g)
   finish-got t bad = refl
   finish-got t (got ps r) = refl
@@ -116,11 +113,11 @@ module _ (end : Option ℕ) (ks : Signals) (s : List ℕ) (at n : ℕ) where
 
   laid-finish : at + 8 * n ≤ length s → (L : Laid)
       → laidBody n body (drop at s) L ≡ pick Yes (finish (uints 8 n s at) (checked (drop (at + 8 * n) s) n (firstIndex end) ks L)) bad
-  laid-finish h ill = none-yes Yes
+  laid-finish h ill = sym (pick-same Yes bad)
   laid-finish h (laid zero l) =
       body-got h l ∙ ap (λ (g : Got (Block (List Entry))). pick Yes g bad) (finish-got (uints 8 n s at) (each (walkPart n (firstIndex end)) ks l .get (drop (at + 8 * n) s)))
   laid-finish h (laid (suc a) l) =
-      ap (λ (t : Bool). pick t (body (layout n l) (drop at s)) bad) (not-first a) ∙ none-yes Yes ∙ ap (λ (g : Got (Block (List Entry))). pick Yes g bad) (finish-bad (uints 8 n s at) a (each (walkPart n (firstIndex end)) ks l .get (drop (suc a) (drop (at + 8 * n) s))))
+      ap (λ (t : Bool). pick t (body (layout n l) (drop at s)) bad) (not-first a) ∙ sym (pick-same Yes bad) ∙ ap (λ (g : Got (Block (List Entry))). pick Yes g bad) (finish-bad (uints 8 n s at) a (each (walkPart n (firstIndex end)) ks l .get (drop (suc a) (drop (at + 8 * n) s))))
 
   -- with room for m bytes of data
   pub body-is : (m : ℕ) (os : List ℕ) → length ks ≡ length os → at + 8 * n + m ≤ length s
@@ -138,7 +135,7 @@ module _ (end : Option ℕ) (ks : Signals) (s : List ℕ) (at n : ℕ) where
       short l e (no q) =
           body-got (omega arith) l
           ∙ ap (λ (g : Got (List OPart)). pick Yes (blockGot (uints 8 n s at) g) bad) (each-short n (firstIndex end) ks l (drop (at + 8 * n) s) (drop-bytes (at + 8 * n) s y) (omega (arith, length-drop (at + 8 * n) s)))
-          ∙ sym (none-yes Yes)
+          ∙ pick-same Yes bad
 
       by : (L : Laid) → lengths m os ≡ L → laidBody n body (drop at s) L ≡ bad
       by ill e = refl

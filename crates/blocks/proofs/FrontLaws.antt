@@ -1,7 +1,7 @@
 -- The numbers in front of a block, read at a place, and the layout by its tests.
 -- Assumes nothing.
 use Prim.Native.Nat.{ℕ, zero, suc, _+_, _*_, _≤_, _<_}
-use mathlib.Core.Path.{_≡_, refl, ap, _∙_}
+use mathlib.Core.Path.{_≡_, refl, ap, _∙_, sym}
 use mathlib.Core.Bool.{Bool, true, false}
 use mathlib.Core.List.{List}
 use mathlib.Core.Option.{Option, none}
@@ -12,6 +12,7 @@ use lib.Dec.{eqb}
 use lib.ListN.{length, drop}
 use Rattle.lists.specs.Choice.{pick}
 use Rattle.lists.specs.Got.{Got, bad, got}
+use Rattle.lists.proofs.ChoiceLaws.{pick-same}
 use Rattle.stream.specs.Entries.{Entry}
 use Rattle.image.specs.Block.{Block}
 use Rattle.form.specs.Form.{Form, andThen, gotIf, ifYes, pair, repeat, uint}
@@ -103,15 +104,11 @@ module _ (limit follow n : ℕ) (body : Layout → List ℕ → BlockGot) (r : L
   by-filled (yes p) l = refl
   by-filled (no p) l = refl
 
-  none-filled : (D : Dec (Filled limit n follow)) → bad ≡ pick {A = BlockGot} (isYes D) bad bad
-  none-filled (yes p) = refl
-  none-filled (no p) = refl
-
   pub by-layout : (a b : Bool) (L : Laid)
       → andThen (andThen (gotIf (pick a (pick b (fromZero n L) none) none) r) (λ l q. gotIf (ifYes (filled? limit (l .count) follow) l) q)) body
       ≡ pick a (pick b (pick (isYes (filled? limit n follow)) (laidBody n body r L) bad) bad) bad
   by-layout false b L = refl
   by-layout true false L = refl
-  by-layout true true ill = none-filled (filled? limit n follow)
+  by-layout true true ill = sym (pick-same (isYes (filled? limit n follow)) bad)
   by-layout true true (laid zero l) = by-filled (filled? limit n follow) l
-  by-layout true true (laid (suc a) l) = rw (not-first a) (none-filled (filled? limit n follow))
+  by-layout true true (laid (suc a) l) = rw (not-first a) (sym (pick-same (isYes (filled? limit n follow)) bad))

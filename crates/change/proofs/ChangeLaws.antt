@@ -1,9 +1,9 @@
 -- A change of the whole memory is one of its signal's record, the state and the work buffer.
 -- Assumes nothing.
-use Prim.Native.Nat.{ℕ, zero, suc, _-_}
+use Prim.Native.Nat.{ℕ, _-_}
 use mathlib.Core.Path.{_≡_, refl, sym}
-use mathlib.Core.List.{List, [], _∷_}
-use lib.ListN.{length, getD, set}
+use lib.ListN.{length}
+use lib.Seq.{set-getD}
 use Rattle.signal.specs.Content.{Given, Decoded, refuse, accept, decode}
 use Rattle.stream.specs.Stream.{changeBytes}
 use Rattle.recording.specs.Memory.{Memory, After, recordAt, Tests, guarded, refused}
@@ -12,17 +12,12 @@ use Rattle.recording.specs.Step.{changeBy, changeOf}
 use Rattle.change.specs.Found.{Found, foundRefused, foundDone, foundBy, foundOf, afterChange}
 use Rattle.change.proofs.FoundLaws.{picked-by, guarded-by}
 
-set-same : {A : Type 0} (l : List A) (g : ℕ) (d : A) → set l g (getD l g d) ≡ l
-set-same [] g d = refl
-set-same (x ∷ l) zero d = refl
-set-same (x ∷ l) (suc g) d = rw (set-same l g d) refl
-
 module _ (m : Memory) (g : ℕ) where
   abbrev stays : ℕ → Found
   stays n = foundRefused (m .state) (recordAt m g) (m .work) n
 
   refused-whole : (n : ℕ) → afterChange m g (stays n) ≡ refused m n
-  refused-whole n = rw (set-same (m .records) g _) refl
+  refused-whole n = rw (set-getD (m .records) g _) refl
 
   guarded-whole : (ts : Tests) (e : Found) {e′ : After} → afterChange m g e ≡ e′ → afterChange m g (guarded ts stays e) ≡ guarded ts (refused m) e′
   guarded-whole ts e h = guarded-by (afterChange m g) ts stays e refused-whole h
@@ -42,5 +37,5 @@ module _ (m : Memory) (g : ℕ) where
       sym
       (guarded-whole (openTests m) _
       (guarded-whole (earlyTests (m .state)) _
-      (picked-by (afterChange m g) (m .state .skip) _ _ (rw (set-same (m .records) g _) refl)
+      (picked-by (afterChange m g) (m .state .skip) _ _ (rw (set-getD (m .records) g _) refl)
       (guarded-whole (signalTests (m .state) (recordAt m g) g) _ (by-whole (decode (recordAt m g .kind) v))))))

@@ -38,7 +38,7 @@ use Rattle.change.specs.declared.admission.Admission.the-variants as adm
 use Rattle.change.specs.declared.item.ItemStart.{ItemStart}
 use Rattle.change.specs.declared.item.ItemStart.the-variants as start
 use Rattle.change.specs.Found.{Found, found, working, risen, foundRefused, foundDone, foundBy, foundOf}
-use Rattle.change.specs.Stages.{admissionOf, itemStartOf, begun}
+use Rattle.change.specs.Stages.{admissionOf, itemStartOf, itemBegun}
 use Rattle.change.proofs.NotationLaws.{item-written, given-length}
 
 -- ---- a function of what the tests choose
@@ -231,16 +231,16 @@ module _ (s : Encoder) (r : SignalRecord) (w : List ℕ) (g : ℕ) (x : Given) (
       ∙ rw (← (given-length (r .kind) (s .held - 1 - r .index) x v (t, said))) (sym (found-written s r w g (decode (r .kind) x) v t said))
 
   -- what is left where the record is refused, and where all of it is written
-  pub item-refused : {i : ItemStart} {k : ℕ} (w′ : List ℕ) → i ≡ itemStartOf s r (length w) v → w′ ≡ begun w (s .work) g i → i ≡ start.Refused k
+  pub item-refused : {i : ItemStart} {k : ℕ} (w′ : List ℕ) → i ≡ itemStartOf s r (length w) v → w′ ≡ itemBegun w (s .work) g i → i ≡ start.Refused k
       → foundRefused s r w′ k ≡ foundBy s r w g (decode (r .kind) x)
   item-refused {i} {k} w′ e h f =
-      ap (λ (u : List ℕ). foundRefused s r u k) (h ∙ ap (begun w (s .work) g) f) ∙ ap byStart (sym f ∙ e) ∙ found-started
+      ap (λ (u : List ℕ). foundRefused s r u k) (h ∙ ap (itemBegun w (s .work) g) f) ∙ ap byStart (sym f ∙ e) ∙ found-started
 
   pub item-done : {i : ItemStart} {n : ℕ} (w₁ w₂ : List ℕ) → Room s r (length w) stream n
-      → i ≡ itemStartOf s r (length w) v → w₁ ≡ begun w (s .work) g i → i ≡ start.Length n → w₂ ≡ sets w₁ (s .work + 8) stream
+      → i ≡ itemStartOf s r (length w) v → w₁ ≡ itemBegun w (s .work) g i → i ≡ start.Length n → w₂ ≡ sets w₁ (s .work + 8) stream
       → found (say recorded) (working s (8 + n)) (risen s r (classNumber t)) w₂ ≡ foundBy s r w g (decode (r .kind) x)
   item-done {i} {n} w₁ w₂ z e h f b =
-      rw (item-written w w₁ w₂ (s .work) g n stream (z .sized) (h ∙ ap (begun w (s .work) g) f) b, z .sized) (ap byStart (sym f ∙ e) ∙ found-started)
+      rw (item-written w w₁ w₂ (s .work) g n stream (z .sized) (h ∙ ap (itemBegun w (s .work) g) f) b, z .sized) (ap byStart (sym f ∙ e) ∙ found-started)
 
 -- what the code answers, part by part
 pub answered : (a b : Answer) (s s′ : Encoder) (k k′ : SignalRecord) (w w′ : List ℕ) → a ≡ b → s ≡ s′ → k ≡ k′ → w ≡ w′

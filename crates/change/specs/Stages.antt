@@ -33,6 +33,6 @@ itemStartOf s r work v =
     guarded (roomTests s r work n) start.Refused (start.Length n)
 
 -- the work buffer after them: a record's head stands at its place, where the record has room
-abbrev pub begun : (work : List ℕ) → (at signal : ℕ) → ItemStart → List ℕ
-begun w at g (start.Refused k) = w
-begun w at g (start.Length n) = sets w at (le 4 g ++ le 4 n)
+abbrev pub itemBegun : (work : List ℕ) → (at signal : ℕ) → ItemStart → List ℕ
+itemBegun w at g (start.Refused k) = w
+itemBegun w at g (start.Length n) = sets w at (le 4 g ++ le 4 n)

@@ -6,6 +6,7 @@ use refusals::state_refusal;
 ghost use mathlib.Core.Path.{_≡_};
 ghost use Rattle.change.specs.Stages.{admissionOf};
 
+// Whether a change's value is looked at.
 pub enum Admission {
     Refused(u32),
     Skipped,

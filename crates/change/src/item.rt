@@ -8,8 +8,9 @@ use stream::write::change_len;
 ghost use mathlib.Core.Path.{_≡_};
 ghost use Prim.Native.Nat.{_≤_, _<_};
 ghost use lib.ListN.{length};
-ghost use Rattle.change.specs.Stages.{itemStartOf, begun};
+ghost use Rattle.change.specs.Stages.{itemStartOf, itemBegun};
 
+// Whether a change's record of the work buffer has itemBegun.
 pub enum ItemStart {
     Refused(u32),
     // The stream length; the head is written.
@@ -25,7 +26,7 @@ pub fn begin_item(
     work: &mut [u8],
 ) -> ItemStart
     requires { ⌜ (0 < state .held) × (state .held ≤ 65535) × (state .work ≤ length (now work)) ⌝ }
-    ensures { λ r. ⌜ (r ≡ itemStartOf state kept (length (now (work .entry))) change) × (now (work .exit) ≡ begun (now (work .entry)) (state .work) (signal .0) r) ⌝ }
+    ensures { λ r. ⌜ (r ≡ itemStartOf state kept (length (now (work .entry))) change) × (now (work .exit) ≡ itemBegun (now (work .entry)) (state .work) (signal .0) r) ⌝ }
 {
     let last = state.held - 1;
     let index = kept.index;

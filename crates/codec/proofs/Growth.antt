@@ -1,4 +1,5 @@
--- How an image grows: a stream by a change at its end, blocks by a block. What fits still fits with more times and a larger top class.
+-- How an image grows: a stream by a change at its end, blocks by a block. What fits still fits with more times and a larger top class;
+-- and of parts and blocks that fit, each one does.
 -- Assumes nothing.
 use Prim.Native.Nat.{ℕ, zero, suc, _-_, _≤_, _<_}
 use mathlib.Core.Path.{_≡_, refl, sym, ap, _∙_, subst}
@@ -46,12 +47,13 @@ rest-at g [] = refl
 rest-at g (t ∷ tops) = refl
 
 pub parts-each : (n i : ℕ) (ks : List SignalEncoding) (tops : List ℕ) (ps : List (Option (Part (List Entry)))) → PartsFit n i ks tops ps
-    → (g : ℕ) → g < length ks → OptionFits (getD ks g Absent) n i (getD tops g 0) (getD ps g none)
-parts-each n i [] tops ps f g h = absurd (omega arith)
-parts-each n i (k ∷ ks) tops [] f g h = absurd f
-parts-each n i (k ∷ ks) tops (p ∷ ps) f zero h = f .0
-parts-each n i (k ∷ ks) tops (p ∷ ps) f (suc g) h =
-    subst (λ (t : ℕ). OptionFits (getD ks g Absent) n i t (getD ps g none)) (rest-at g tops) (parts-each n i ks (drop 1 tops) ps (f .1) g (omega arith))
+    → (g : ℕ) → OptionFits (getD ks g Absent) n i (getD tops g 0) (getD ps g none)
+parts-each n i [] tops [] f g = tt
+parts-each n i [] tops (p ∷ ps) f g = absurd f
+parts-each n i (k ∷ ks) tops [] f g = absurd f
+parts-each n i (k ∷ ks) tops (p ∷ ps) f zero = f .0
+parts-each n i (k ∷ ks) tops (p ∷ ps) f (suc g) =
+    subst (λ (t : ℕ). OptionFits (getD ks g Absent) n i t (getD ps g none)) (rest-at g tops) (parts-each n i ks (drop 1 tops) ps (f .1) g)
 
 pub each-parts : (n i : ℕ) (ks : List SignalEncoding) (tops : List ℕ) (ps : List (Option (Part (List Entry)))) → length ps ≡ length ks
     → ((g : ℕ) → g < length ks → OptionFits (getD ks g Absent) n i (getD tops g 0) (getD ps g none)) → PartsFit n i ks tops ps
@@ -91,6 +93,19 @@ unfolding blocksBytes
 blocks-one ks b = append-nil (blockBytes (streamed ks b))
 
 module _ (limit : ℕ) (ks : List SignalEncoding) where
+  -- a block among blocks that fit: it fits after those before it
+  pub record Fitting (b : Block (List Entry)) : Type 0 where
+    pub end : Option ℕ
+    pub tops : List ℕ
+    pub follow : ℕ
+    pub fits : BlockFits limit ks end tops b follow
+
+  pub blocks-each : (end : Option ℕ) (tops : List ℕ) (bs : List (Block (List Entry))) (past : Block (List Entry)) → BlocksFit limit ks end tops bs
+      → (n : ℕ) → n < length bs → Fitting (getD bs n past)
+  blocks-each end tops [] past f n h = absurd (omega arith)
+  blocks-each end tops (b ∷ bs) past f zero h = record { end = end; tops = tops; follow = length bs; fits = f .0 }
+  blocks-each end tops (b ∷ bs) past f (suc n) h = blocks-each _ _ bs past (f .1) n (omega arith)
+
   -- a full block fits wherever it stands
   full-anywhere : (end : Option ℕ) (tops : List ℕ) (b : Block (List Entry)) (follow : ℕ) → BlockFits limit ks end tops b 1 → BlockFits limit ks end tops b follow
   full-anywhere end tops b follow f =

@@ -1,10 +1,11 @@
--- The form of a stream keeps the two laws, and writes `streamBytes`: by the laws of one change (crate stream, proofs/StreamTrip).
+-- The form of a stream keeps the two laws, and writes `streamBytes`: by the laws of one change (crate stream, proofs/StreamTrip). A
+-- stream has a byte or more for each entry.
 -- Assumes nothing.
-use Prim.Native.Nat.{ℕ, _+_, _-_, _<_}
+use Prim.Native.Nat.{ℕ, _+_, _-_, _≤_, _<_}
 use mathlib.Core.Path.{_≡_, refl, ap}
 use mathlib.Core.List.{List, [], _∷_, _++_}
 use native.Mathlib.Omega.{arith}
-use lib.ListN.{length}
+use lib.ListN.{length, length-append}
 use Rattle.numbers.proofs.Leb128Laws.{leb-any}
 use Rattle.signal.specs.declared.kind.SignalEncoding.{SignalEncoding}
 use Rattle.signal.specs.Content.{Content, ContentFits}
@@ -17,6 +18,7 @@ use Rattle.stream.proofs.LengthLaws.{change-length}
 use Rattle.form.specs.Form.{putChain}
 use Rattle.form.proofs.FormLaws.{Was, Laws, via-laws}
 use Rattle.form.proofs.WholeLaws.{WholeLaws, chain-laws, some-is}
+use Rattle.codec.specs.Valid.{EntriesFit}
 use Rattle.codec.specs.ImageForm.{changeForm, entryForm, stream}
 
 change-back : (k : SignalEncoding) (s : List ℕ) (x : Change) (r : List ℕ) → WrittenAs k s x r → Was (changeForm k) s x r
@@ -36,6 +38,18 @@ entry-laws k i = via-laws (changeForm k) _ (λ e. change (e .index - i) (e .cont
 
 pub change-long : (k : SignalEncoding) (d : ℕ) (c : Content) → ContentFits k c → 0 < length (changeBytes k d c)
 change-long k d c f = omega (arith, change-length k d c f, leb-any (changeNumber d (valueOf k c)))
+
+-- no more entries than bytes
+pub stream-long : (k : SignalEncoding) (n i top j : ℕ) (l : List Entry) → EntriesFit k n i top l → length l ≤ length (streamBytes k j l)
+unfolding streamBytes
+stream-long k n i top j [] f = omega arith
+stream-long k n i top j (e ∷ l) f =
+    omega (
+      arith,
+      length-append (changeBytes k (e .index - j) (e .content)) (streamBytes k (e .index) l),
+      change-long k (e .index - j) (e .content) (f .0 .content),
+      stream-long k n (e .index) top (e .index) l (f .1),
+    )
 
 pub stream-laws : (k : SignalEncoding) → WholeLaws (stream k)
 unfolding stream

@@ -14,7 +14,7 @@ use Rattle.image.specs.Head.{kindNumber, headBytes}
 use Rattle.image.specs.Image.{Image, streamedParts, streamed, blocksBytes, imageBytes}
 use Rattle.form.specs.Form.{repeat, each, uint}
 use Rattle.codec.specs.Layout.{lengthsIn, offsets, layoutForm}
-use Rattle.codec.specs.ImageForm.{stream, partForm, blockForm, kindForm, headForm, imageForm}
+use Rattle.codec.specs.ImageForm.{partForm, blockForm, kindForm, headForm, imageForm}
 use Rattle.codec.proofs.LayoutLaws.{offsets-parts, size-parts, count-parts, count-offsets}
 use Rattle.codec.proofs.StreamLaws.{stream-written}
 

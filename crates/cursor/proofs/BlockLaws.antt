@@ -3,7 +3,6 @@
 use Prim.Native.Nat.{ℕ, zero, suc, _+_, _-_, _≤_, _<_, _^_}
 use mathlib.Core.Path.{_≡_, refl, sym, ap, _∙_, subst}
 use mathlib.Core.List.{List, [], _∷_, _++_}
-use mathlib.Core.Option.{none}
 use native.Mathlib.Omega.{arith}
 use native.Mathlib.Decide.{decLt}
 use lib.ListN.{length, getD, drop, length-append, length-drop, take-append-drop}
@@ -19,18 +18,20 @@ use Rattle.image.specs.Block.{Block, block}
 use Rattle.image.specs.Head.{imageLimit}
 use Rattle.image.specs.Image.{Image, streamed}
 use Rattle.image.proofs.SizeLaws.{block-size}
+use Rattle.codec.specs.Valid.{firstIndex}
 use Rattle.codec.proofs.StreamLaws.{change-long}
+use Rattle.codec.proofs.ImageFits.{filled-small}
 use Rattle.loaded.specs.Opener.{kindAt, blockAt, partAt}
 use Rattle.loaded.specs.Loading.{entriesIn}
 use Rattle.entry.specs.Read.{contentRead, Reads}
 use Rattle.walk.specs.Walk.{Opened, imageIn, blockPlace, BlockHere, TimeHere, PartHere}
 use Rattle.walk.proofs.HeadLaws.{means, head-in}
-use Rattle.walk.proofs.BlockLaws.{here, next-place, next-size}
+use Rattle.walk.proofs.BlockLaws.{fits-in, here, next-place, next-size}
 use Rattle.walk.proofs.PartLaws.{stream-entries}
 use Rattle.cursor.specs.declared.point.Pointing.{Pointing}
 use Rattle.cursor.specs.Point.{Point, passed, allPassed, blocksPassed, pointAs, PointReads}
 use Rattle.cursor.proofs.PointLaws.{passed-count}
-use Rattle.cursor.proofs.LoadLaws.{PartsAt, parts-at, part-fits, parts-short}
+use Rattle.cursor.proofs.LoadLaws.{part-fits, parts-short}
 use Rattle.cursor.proofs.StreamLaws.{Standing, Read, read-first, never-bad}
 
 -- ---- a block is known by its place
@@ -58,18 +59,17 @@ same-block n m at b h k = by (decLt n m) (decLt m n)
 
 -- ---- what is known of a block's parts
 
-parts-here : (n at : ℕ) (b : List ℕ) → Bytes b → Opened b → BlockHere n at b → PartsAt (imageIn b .limit) (imageIn b .kinds) (blockAt (imageIn b) n)
-parts-here n at b y o h = let x = imageIn b in parts-at (x .limit) (x .kinds) none [] (x .blocks) n (block [] []) (means b y o .valid .blocks) (h .exists)
-
 times-most : (n at : ℕ) (b : List ℕ) → Bytes b → Opened b → BlockHere n at b → length (blockAt (imageIn b) n .times) ≤ maxDelta + 1
-times-most n at b y o h = omega (arith, parts-here n at b y o h .most, means b y o .valid .high)
+times-most n at b y o h =
+    let f = fits-in n b y o (h .exists) in
+    omega (arith, filled-small (imageIn b .limit) (length (blockAt (imageIn b) n .times)) (f .follow) (f .fits .filled), means b y o .valid .high)
 
 -- the entries kept before a block and those of the block are not more than the bytes up to its end
 pub counts-next : (n at g count : ℕ) (b : List ℕ) → Bytes b → Opened b → BlockHere n at b → count ≤ at
     → count + length (entriesIn (partAt (blockAt (imageIn b) n) g)) ≤ blockPlace (imageIn b) (suc n)
 counts-next n at g count b y o h c =
-    let q = parts-here n at b y o h in
-    omega (arith, next-size (imageIn b) n (h .exists), h .place, parts-short _ (q .first) (imageIn b .kinds) (q .tops) (blockAt (imageIn b) n .parts) g (q .parts))
+    let q = fits-in n b y o (h .exists) in
+    omega (arith, next-size (imageIn b) n (h .exists), h .place, parts-short _ (firstIndex (q .end)) (imageIn b .kinds) (q .tops) (blockAt (imageIn b) n .parts) g (q .fits .parts))
 
 next-most : (n at : ℕ) (b : List ℕ) → Bytes b → Opened b → BlockHere n at b → blockPlace (imageIn b) (suc n) ≤ imageLimit
 next-most n at b y o h = omega (arith, next-size (imageIn b) n (h .exists), h .place, here n at b y o h .most, head-in b y o .most)
@@ -91,8 +91,8 @@ pub passing-begins : (n : ℕ) (k : SignalEncoding) (b : List ℕ) (g at from to
     → PartHere from to top n g b → PointReads k b start → start .count ≤ at → Passing k b g at to t start start from 0
 passing-begins n k b g at from to top t start y o h e f r c =
     let x = imageIn b in
-    let q = parts-here n at b y o h in
-    let w = part-fits _ (q .first) (x .kinds) (q .tops) (blockAt x n .parts) g (q .parts) in
+    let q = fits-in n b y o (h .exists) in
+    let w = part-fits _ (firstIndex (q .end)) (x .kinds) (q .tops) (blockAt x n .parts) g (q .fits .parts) in
     let es : List Entry = entriesIn (partAt (blockAt x n) g) in
     let z : from + (to - from) ≡ to = omega (arith, f .ordered) in
     let s : drop from b ≡ streamBytes (kindAt x g) 0 es ++ drop to b =

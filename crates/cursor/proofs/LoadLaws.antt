@@ -9,33 +9,25 @@ use mathlib.Core.Option.{Option, some, none}
 use native.Mathlib.Omega.{arith}
 use borrow.Author.Tests.{eqb-true}
 use lib.Dec.{eqb}
-use lib.ListN.{length, getD, drop, length-append}
+use lib.ListN.{length, getD, drop, length-append, List·getD-append}
+use lib.Seq.{getD-append-add}
 use Rattle.lists.specs.Choice.{pick}
 use Rattle.lists.specs.Last.{lastOr}
 use Rattle.signal.specs.declared.kind.SignalEncoding.{SignalEncoding}
 use Rattle.signal.specs.declared.kind.SignalEncoding.the-variants.{Absent}
-use Rattle.stream.specs.Entries.{Entry, streamBytes}
-use Rattle.stream.specs.Stream.{changeBytes}
+use Rattle.stream.specs.Entries.{Entry}
 use Rattle.image.specs.Block.{Part, Block, partBytes, dataOf}
 use Rattle.image.specs.Image.{streamedPart, streamedParts}
 use Rattle.codec.specs.Valid.{EntriesFit, OptionFits, PartsFit, BlocksFit, firstIndex, topsAfter}
-use Rattle.codec.proofs.StreamLaws.{change-long}
-use Rattle.codec.proofs.ImageFits.{filled-small}
+use Rattle.codec.proofs.StreamLaws.{stream-long}
+use Rattle.codec.proofs.Growth.{parts-each}
 use Rattle.loaded.specs.Opener.{partAt}
-use Rattle.loaded.specs.Loading.{overlap, joinTimes, moved, Load, load, entriesIn, loadBlock, loadFrom, loads}
+use Rattle.loaded.specs.Loading.{overlap, joinTimes, moved, Load, load, entriesIn, topIn, loadBlock, loadFrom, loads}
+use Rattle.walk.proofs.PartLaws.{entries-fit}
 use Rattle.cursor.specs.Point.{Point, unpointed, passed, allPassed, blocksPassed}
 use Rattle.cursor.proofs.PointLaws.{holding, passed-pushed}
 
 -- ---- a block's times in the combined table
-
-at-front : (a b : List ℕ) (i : ℕ) → i < length a → getD (a ++ b) i 0 ≡ getD a i 0
-at-front [] b i h = absurd (omega arith)
-at-front (x ∷ a) b zero h = refl
-at-front (x ∷ a) b (suc i) h = at-front a b i (omega arith)
-
-at-back : (a b : List ℕ) (i : ℕ) → getD (a ++ b) (length a + i) 0 ≡ getD b i 0
-at-back [] b i = let z : 0 + i ≡ i = omega arith in ap (λ (n : ℕ). getD b n 0) z
-at-back (x ∷ a) b i = let z : suc (length a) + i ≡ suc (length a + i) = omega arith in ap (λ (n : ℕ). getD (x ∷ (a ++ b)) n 0) z ∙ at-back a b i
 
 at-last : (x : ℕ) (l r : List ℕ) → getD ((x ∷ l) ++ r) (length l) 0 ≡ lastOr x l
 unfolding lastOr
@@ -43,7 +35,7 @@ at-last x [] r = refl
 at-last x (y ∷ l) r = at-last y l r
 
 joined-at : (tb ts rest : List ℕ) (i : ℕ) → i < length ts → getD (joinTimes tb ts ++ rest) (length tb - overlap tb ts + i) 0 ≡ getD ts i 0
-joined-at [] ts rest i h = let z : 0 - 0 + i ≡ i = omega arith in ap (λ (n : ℕ). getD (ts ++ rest) n 0) z ∙ at-front ts rest i h
+joined-at [] ts rest i h = let z : 0 - 0 + i ≡ i = omega arith in ap (λ (n : ℕ). getD (ts ++ rest) n 0) z ∙ List·getD-append ts rest 0 i h
 joined-at (x ∷ l) [] rest i h = absurd (omega arith)
 joined-at (x ∷ l) (u ∷ us) rest i h = by (eqb u (lastOr x l)) refl i h
   where
@@ -55,11 +47,11 @@ joined-at (x ∷ l) (u ∷ us) rest i h = by (eqb u (lastOr x l)) refl i h
     by true e (suc i) h =
         let z : suc (length l) - 1 + suc i ≡ suc (length l) + i = omega arith in
         ap (λ (n : ℕ). getD (((x ∷ l) ++ us) ++ rest) n 0) z ∙ ap (λ (m : List ℕ). getD m (suc (length l) + i) 0) (append-assoc (x ∷ l) us rest)
-        ∙ at-back (x ∷ l) (us ++ rest) i ∙ at-front us rest i (omega arith)
+        ∙ getD-append-add (x ∷ l) (us ++ rest) i 0 ∙ List·getD-append us rest 0 i (omega arith)
     by false e i h =
         let z : suc (length l) - 0 + i ≡ suc (length l) + i = omega arith in
         ap (λ (n : ℕ). getD (((x ∷ l) ++ (u ∷ us)) ++ rest) n 0) z ∙ ap (λ (m : List ℕ). getD m (suc (length l) + i) 0) (append-assoc (x ∷ l) (u ∷ us) rest)
-        ∙ at-back (x ∷ l) ((u ∷ us) ++ rest) i ∙ at-front (u ∷ us) rest i h
+        ∙ getD-append-add (x ∷ l) ((u ∷ us) ++ rest) i 0 ∙ List·getD-append (u ∷ us) rest 0 i h
 
 -- ---- entries whose indices are below a number
 
@@ -87,17 +79,12 @@ entries-later k n i top (e ∷ es) f = (record { later = omega arith; inside = f
 abbrev pub SignalFits : SignalEncoding → (n : ℕ) → List Entry → Type 0
 SignalFits k n es = (top : ℕ) × EntriesFit k n 0 top es
 
-option-fits : (k : SignalEncoding) (n i before : ℕ) (p : Option (Part (List Entry))) → OptionFits k n i before p → SignalFits k n (entriesIn p)
-option-fits k n i before none f = (0, tt)
-option-fits k n i before (some p) f = (p .top, entries-later k n i (p .top) (p .stream) (f .entries))
-
 pub part-fits : (n i : ℕ) (ks : List SignalEncoding) (tops : List ℕ) (ps : List (Option (Part (List Entry)))) (g : ℕ) → PartsFit n i ks tops ps
     → SignalFits (getD ks g Absent) n (entriesIn (getD ps g none))
-part-fits n i [] tops [] g f = (0, tt)
-part-fits n i [] tops (p ∷ ps) g f = absurd f
-part-fits n i (k ∷ ks) tops [] g f = absurd f
-part-fits n i (k ∷ ks) tops (p ∷ ps) zero f = option-fits k n i (getD tops 0 0) p (f .0)
-part-fits n i (k ∷ ks) tops (p ∷ ps) (suc g) f = part-fits n i ks (drop 1 tops) ps g (f .1)
+part-fits n i ks tops ps g f =
+    let k : SignalEncoding = getD ks g Absent in
+    let p : Option (Part (List Entry)) = getD ps g none in
+    (topIn p, entries-later k n i (topIn p) (entriesIn p) (entries-fit k n i (getD tops g 0) p (parts-each n i ks tops ps f g)))
 
 -- ---- all blocks
 
@@ -133,31 +120,11 @@ module _ (limit : ℕ) (ks : List SignalEncoding) (t g : ℕ) where
       → blocksPassed t g unpointed bs ≡ holding (loads g bs .times) t (loads g bs .entries)
   points-loads bs f = blocks-load (loads g bs .times) (load [] [] 0) bs none [] f refl
 
--- ---- block number n
-
-pub record PartsAt (limit : ℕ) (ks : List SignalEncoding) (y : Block (List Entry)) : Type 0 where
-  pub first : ℕ
-  pub tops : List ℕ
-  pub most : length (y .times) ≤ limit
-  pub parts : PartsFit (length (y .times)) first ks tops (y .parts)
-
-pub parts-at : (limit : ℕ) (ks : List SignalEncoding) (end : Option ℕ) (tops : List ℕ) (bs : List (Block (List Entry))) (n : ℕ) (past : Block (List Entry)) → BlocksFit limit ks end tops bs
-    → n < length bs → PartsAt limit ks (getD bs n past)
-parts-at limit ks end tops [] n past f h = absurd (omega arith)
-parts-at limit ks end tops (y ∷ bs) zero past f h =
-    record { first = firstIndex end; tops = tops; most = filled-small limit (length (y .times)) (length bs) (f .0 .filled); parts = f .0 .parts }
-parts-at limit ks end tops (y ∷ bs) (suc n) past f h = parts-at limit ks _ _ bs n past (f .1) (omega arith)
-
--- a signal has no more entries in a block than the block data bytes
-entries-short : (k : SignalEncoding) (n i top : ℕ) (es : List Entry) → EntriesFit k n i top es → length es ≤ length (streamBytes k i es)
-unfolding streamBytes
-entries-short k n i top [] f = omega arith
-entries-short k n i top (e ∷ es) f =
-    omega (arith, length-append (changeBytes k (e .index - i) (e .content)) (streamBytes k (e .index) es), change-long k (e .index - i) (e .content) (f .0 .content), entries-short k n (e .index) top es (f .1))
+-- ---- a signal has no more entries in a block than the block data bytes
 
 option-short : (k : SignalEncoding) (n i before : ℕ) (p : Option (Part (List Entry))) → OptionFits k n i before p → length (entriesIn p) ≤ length (partBytes (streamedPart k p))
 option-short k n i before none f = omega arith
-option-short k n i before (some p) f = omega (arith, entries-short k n 0 (p .top) (p .stream) (entries-later k n i (p .top) (p .stream) (f .entries)))
+option-short k n i before (some p) f = omega (arith, stream-long k n i (p .top) 0 (p .stream) (f .entries))
 
 pub parts-short : (n i : ℕ) (ks : List SignalEncoding) (tops : List ℕ) (ps : List (Option (Part (List Entry)))) (g : ℕ) → PartsFit n i ks tops ps
     → length (entriesIn (getD ps g none)) ≤ length (dataOf (streamedParts ks ps))

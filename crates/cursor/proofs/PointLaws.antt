@@ -1,6 +1,6 @@
 -- What passing changes makes of the point is what `pushed` makes of the entries kept, with the one that `lastBefore` finds among them.
 -- Assumes nothing.
-use Prim.Native.Nat.{ℕ, zero, suc, _+_, _≤_, _<_}
+use Prim.Native.Nat.{ℕ, suc, _+_, _≤_, _<_}
 use mathlib.Core.Path.{_≡_, refl, sym, ap, _∙_}
 use mathlib.Core.Bool.{Bool, true, false, _||_}
 use mathlib.Core.List.{List, [], _∷_, _++_}
@@ -8,8 +8,10 @@ use mathlib.Core.Option.{Option, some}
 use native.Mathlib.Omega.{arith}
 use borrow.Author.Tests.{ne-eqb}
 use lib.Dec.{eqb, leb}
-use lib.ListN.{length, getD}
+use lib.ListN.{length, getD, List·getD-append}
+use lib.Seq.{getD-append-seam}
 use Rattle.lists.specs.Choice.{pick}
+use Rattle.lists.proofs.ChoiceLaws.{pick-same}
 use Rattle.signal.specs.Content.{Content}
 use Rattle.stream.specs.Entries.{Entry}
 use Rattle.loaded.specs.Loading.{repeatsLast, pushed}
@@ -27,19 +29,6 @@ holding ts t [] = unpointed
 holding ts t (e ∷ es) = pointingTo ts (e ∷ es) (lastBefore ts t 0 0 (e ∷ es)) e
 
 -- ---- one entry more
-
-at-end : (es : List Entry) (e d : Entry) → getD (es ++ e ∷ []) (length es) d ≡ e
-at-end [] e d = refl
-at-end (a ∷ es) e d = at-end es e d
-
-at-before : (es : List Entry) (e d : Entry) (n : ℕ) → n < length es → getD (es ++ e ∷ []) n d ≡ getD es n d
-at-before [] e d n h = absurd (omega arith)
-at-before (a ∷ es) e d zero h = refl
-at-before (a ∷ es) e d (suc n) h = at-before es e d n (omega arith)
-
-pick-same : (b : Bool) (n : ℕ) → pick b n n ≡ n
-pick-same true n = refl
-pick-same false n = refl
 
 before-more : (ts : List ℕ) (t n i : ℕ) (es : List Entry) (e : Entry)
     → lastBefore ts t n i (es ++ e ∷ []) ≡ pick (leb (getD ts (e .index) 0) t) (i + length es) (lastBefore ts t n i es)
@@ -66,14 +55,14 @@ points-equal n m i j t u l r a b e f g h q = rw (e, f, g, h, q) refl
 points-new : (ts : List ℕ) (es : List Entry) (e d : Entry)
     → point (suc (length es)) (some (e .content)) (length es) (getD ts (e .index) 0) (some (e .content)) ≡ pointingTo ts (es ++ e ∷ []) (length es) d
 points-new ts es e d =
-    let z = at-end es e d in
+    let z = getD-append-seam es e [] d in
     points-equal _ _ (length es) (length es) _ _ _ _ _ _ (sym (count-more es e)) (sym (last-more es e)) refl (ap (λ (f : Entry). getD ts (f .index) 0) (sym z)) (ap (λ (f : Entry). f .content) (sym z))
 
 -- the one before stays
 points-old : (ts : List ℕ) (es : List Entry) (e d : Entry) (n : ℕ) → n < length es
     → point (suc (length es)) (some (e .content)) n (getD ts (getD es n d .index) 0) (some (getD es n d .content)) ≡ pointingTo ts (es ++ e ∷ []) n d
 points-old ts es e d n h =
-    let z = at-before es e d n h in
+    let z = List·getD-append es (e ∷ []) d n h in
     points-equal _ _ n n _ _ _ _ _ _ (sym (count-more es e)) (sym (last-more es e)) refl (ap (λ (f : Entry). getD ts (f .index) 0) (sym z)) (ap (λ (f : Entry). f .content) (sym z))
 
 kept-more : (ts : List ℕ) (t : ℕ) (es : List Entry) (e : Entry) → keptAt t (holding ts t es) (getD ts (e .index) 0) (e .content) ≡ holding ts t (es ++ e ∷ [])

@@ -1,15 +1,16 @@
 -- Every byte string that the opener accepts is left by some list of calls, in memory that can be lent.
 -- Assumes nothing.
-use Prim.Native.Nat.{ℕ, zero, suc, _+_, _*_, _≤_, _<_, _^_}
+use Prim.Native.Nat.{ℕ, _+_, _*_, _≤_, _<_, _^_}
 use mathlib.Core.Path.{_≡_, refl, sym, ap, _∙_, subst}
 use mathlib.Core.Bool.{true, false}
 use mathlib.Core.List.{List, [], _∷_, map}
 use mathlib.Core.Option.{Option, some, none}
 use native.Mathlib.Omega.{arith}
 use borrow.Author.Tests.{leb-true}
-use lib.ListN.{length, getD, replicate, length-replicate}
+use lib.ListN.{length, replicate, length-replicate, length-map}
 use Rattle.lists.specs.Bytes.{Bytes}
 use Rattle.lists.specs.Choice.{isSome}
+use Rattle.lists.proofs.BytesLaws.{zeros-at}
 use Rattle.value.specs.declared.states.States.the-variants.{Two}
 use Rattle.signal.specs.declared.kind.SignalEncoding.{SignalEncoding}
 use Rattle.signal.specs.declared.kind.SignalEncoding.the-variants.{BitVector, Real, Absent}
@@ -40,16 +41,8 @@ use Rattle.demand.specs.Demand3.{RecordsFit, Lent, Leaves}
 abbrev zeros : ℕ → List ℕ
 zeros n = replicate n 0
 
-length-zeros : (n : ℕ) → length (zeros n) ≡ n
-length-zeros n = length-replicate n 0
-
-zero-at : (n i : ℕ) → getD (zeros n) i 0 ≡ 0
-zero-at zero i = refl
-zero-at (suc n) zero = refl
-zero-at (suc n) (suc i) = zero-at n i
-
 zero-slice : (n : ℕ) → n < 2 ^ 63 → Slice (zeros n)
-zero-slice n h = ((λ i. rw (zero-at n i) (omega arith)), rw (length-zeros n) h)
+zero-slice n h = ((λ i. rw (zeros-at n i) (omega arith)), rw (length-replicate {A = ℕ} n 0) h)
 
 abbrev recordFor : SignalEncoding → SignalRecord
 recordFor k = recordOf k 0 Two
@@ -76,17 +69,13 @@ room-lent limit n size ks known l h k = record {
   records = records-room ks known;
   work = zero-slice (n * mostBytes) (omega arith);
   image = zero-slice size (omega arith);
-  times = λ i. rw (zero-at limit i) (omega arith);
-  long = rw (length-zeros limit) (omega arith);
+  times = λ i. rw (zeros-at limit i) (omega arith);
+  long = rw (length-replicate {A = ℕ} limit 0) (omega arith);
 }
 
 kinds-room : (ks : List SignalEncoding) → kindsOf (map recordFor ks) ≡ ks
 kinds-room [] = refl
 kinds-room (k ∷ ks) = ap (λ (l : List SignalEncoding). k ∷ l) (kinds-room ks)
-
-count-room : (ks : List SignalEncoding) → length (map recordFor ks) ≡ length ks
-count-room [] = refl
-count-room (k ∷ ks) = ap suc (count-room ks)
 
 known-room : (ks : List SignalEncoding) → KnownKinds ks → unknownKind (map recordFor ks) ≡ false
 unfolding unknownKind
@@ -109,12 +98,12 @@ module _ (x : Image) (v : Valid x) where
   startable = record {
     low = v .low;
     high = v .high;
-    table = omega (arith, length-zeros (x .limit));
+    table = omega (arith, length-replicate {A = ℕ} (x .limit) 0);
     few = v .signals;
-    count = sym (count-room (x .kinds));
+    count = sym (length-map (x .kinds) recordFor);
     known = known-room (x .kinds) (v .kinds);
-    room = omega (arith, length-zeros imageSize);
-    small = omega (arith, length-zeros imageSize, size-small);
+    room = omega (arith, length-replicate {A = ℕ} imageSize 0);
+    small = omega (arith, length-replicate {A = ℕ} imageSize 0, size-small);
   }
 
   fitting : Fitting (imageCalls (x .kinds) (x .blocks))
@@ -131,8 +120,8 @@ module _ (x : Image) (v : Valid x) where
       let m : Memory = lentRoom in
       let e = kinds-room ks in
       let s = startable in
-      let w : length (imageCalls ks (x .blocks)) * mostBytes ≤ length (m .work) = omega (arith, length-zeros (length (imageCalls ks (x .blocks)) * mostBytes)) in
-      let h : imageSize ≤ length (m .image) = omega (arith, length-zeros imageSize) in
+      let w : length (imageCalls ks (x .blocks)) * mostBytes ≤ length (m .work) = omega (arith, length-replicate {A = ℕ} (length (imageCalls ks (x .blocks)) * mostBytes) 0) in
+      let h : imageSize ≤ length (m .image) = omega (arith, length-replicate {A = ℕ} imageSize 0) in
       let b = left (x .limit) (length ks) m (x .blocks) s (subst (λ (y : List SignalEncoding). BlocksFit (x .limit) y none [] (x .blocks)) (sym e) (v .blocks))
       (subst (λ (y : List SignalEncoding). Fitting (imageCalls y (x .blocks))) (sym e) fitting)
       (subst (λ (y : List SignalEncoding). headSize (length y) + length (blocksBytes y (x .blocks)) ≤ length (m .image)) (sym e) h)

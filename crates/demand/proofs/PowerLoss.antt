@@ -117,4 +117,4 @@ module _ (limit signals : ℕ) (m : Memory) (calls : List Call) (fit : Fitting c
       (history-rising ks held noHistory (refusals (ranFrom limit signals m held .replies)) tt)
 
 pub power-loss : PowerLoss
-power-loss = record { used = λ limit signals m calls lent fit start. used-loads limit signals m calls fit start }
+power-loss = record { used = λ limit signals m calls fit start. used-loads limit signals m calls fit start }

@@ -25,7 +25,7 @@ use Rattle.stream.specs.Entries.{entry, streamBytes}
 use Rattle.image.specs.Block.{les, dataOf, offsetsFrom, blockBytes}
 use Rattle.image.specs.Head.{headBytes}
 use Rattle.image.specs.Image.{streamedParts, blocksBytes, imageBytes}
-use Rattle.recording.specs.Calls.{Call, Slice, Fitting, time, change, finish, taken, back, recorded, skipped, Reply, say, total, refusals, heard, wayOf}
+use Rattle.recording.specs.Calls.{Call, Slice, Fitting, time, change, finish, taken, back, recorded, skipped, Reply, say, refusals, heard, wayOf}
 use Rattle.recording.specs.Calls as calls
 use Rattle.recording.specs.Work.{itemsOf, gather}
 use Rattle.recording.specs.Memory.{Memory, memory, recordOf}
@@ -85,10 +85,6 @@ mixedImage =
 pub mixed-left : leftBy 2 4 mixed mixedCalls 153 ≡ mixedImage
 unfolding groups lebOf le unle symbolOf classOfAll allSymbols symbolsIn lastOr vcdBit textOf extended textSymbols numberOf digits packed unpacked rawSymbols decode changeBytes les dataOf offsetsFrom blockBytes headBytes wayOf itemsOf gather unknownKind startTests stateTests partsFrom cutOf timeOf changeOf finishOf startOf step run
 mixed-left = refl
-
-pub mixed-finish : step (ranFrom 2 4 mixed mixedCalls .last) finish .reply ≡ total 153
-unfolding groups lebOf le unle symbolOf classOfAll allSymbols symbolsIn lastOr vcdBit textOf extended textSymbols numberOf digits packed unpacked rawSymbols decode changeBytes les dataOf offsetsFrom blockBytes headBytes wayOf itemsOf gather unknownKind startTests stateTests partsFrom cutOf timeOf changeOf finishOf startOf step run
-mixed-finish = refl
 
 -- the list meets demand 3's premises
 nines-at : (n i : ℕ) → getD (replicate n 99) i 0 < 256

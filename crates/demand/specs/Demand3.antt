@@ -122,6 +122,6 @@ callsIn m held done (c ∷ cs) =
 
 -- the used image bytes load as the history of these
 pub record PowerLoss : Type 0 where
-  pub used : (limit signals : ℕ) (m : Memory) (calls : List Call) → Lent m → Fitting calls → startOf limit signals m .reply ≡ started
+  pub used : (limit signals : ℕ) (m : Memory) (calls : List Call) → Fitting calls → startOf limit signals m .reply ≡ started
       → let r = ranFrom limit signals m calls .last in
       LoadsAs (kindsOf (m .records)) (historyOf limit signals m (callsIn (startOf limit signals m .memory) [] [] calls) .last) (take (r .state .image) (r .image))

@@ -11,7 +11,7 @@ use Rattle.lists.specs.Choice.{pick}
 use Rattle.numbers.proofs.LittleEndianLaws.{length-le}
 use Rattle.value.specs.Class.{classOfAll}
 use Rattle.packed.specs.Packed.{packedLength, packed}
-use Rattle.packed.proofs.PackedLaws.{length-packed}
+use Rattle.packed.proofs.PackedLaws.{packed-length}
 use Rattle.signal.specs.declared.kind.SignalEncoding.{SignalEncoding}
 use Rattle.signal.specs.declared.kind.SignalEncoding.the-variants.{BitVector, Real, Absent}
 use Rattle.signal.specs.Content.{Content, happened, symbols, bits, symbolsOf, ContentFits}
@@ -51,16 +51,13 @@ wide-carrying w c t b h = by (classByte w c) (packedLength w c) h
     by false n h = rw (zero-add n) refl
 
 module _ (w c : ℕ) (s : List ℕ) (e : length s ≡ w) (k : classOfAll s ≤ c) (h : c ≤ 2) where
-  own-length : length (packed (classOfAll s) s) ≡ packedLength w (classOfAll s)
-  own-length = length-packed (classOfAll s) s ∙ ap (λ (v : ℕ). packedLength v (classOfAll s)) e
-
   pub wide-is : wideEntry w c s ≡ carrying (classOfAll s * 64) (filledTo (wideLength w c) (packed (classOfAll s) s))
-  wide-is = wide-carrying w c (classOfAll s) (packed (classOfAll s) s) (omega (arith, own-length, packed-fewer w (classOfAll s) c k h))
+  wide-is = wide-carrying w c (classOfAll s) (packed (classOfAll s) s) (omega (arith, packed-length (classOfAll s) w s e, packed-fewer w (classOfAll s) c k h))
 
   pub length-wide : length (wideEntry w c s) ≡ wideLength w c
   length-wide =
       ap length wide-is ∙ length-carrying (classOfAll s * 64) (filledTo (wideLength w c) (packed (classOfAll s) s))
-      ∙ length-filled (wideLength w c) (packed (classOfAll s) s) (omega (arith, own-length, packed-fewer w (classOfAll s) c k h))
+      ∙ length-filled (wideLength w c) (packed (classOfAll s) s) (omega (arith, packed-length (classOfAll s) w s e, packed-fewer w (classOfAll s) c k h))
 
 -- the entry bytes of every content that fits
 pub entry-length : (k : SignalEncoding) (c : ℕ) (a : Content) → ContentFits k a → classOfAll (symbolsOf a) ≤ c → c ≤ 2

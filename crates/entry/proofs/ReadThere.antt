@@ -14,8 +14,8 @@ use Rattle.lists.proofs.SmallLaws.{one-element}
 use Rattle.numbers.specs.Leb128.{lebOf}
 use Rattle.value.specs.Class.{classNumber, statesOf, classOfAll, allSymbols}
 use Rattle.value.proofs.ClassLaws.{number-states, class-all-small}
-use Rattle.packed.specs.Packed.{packedLength, packed, unpacked}
-use Rattle.packed.proofs.PackedLaws.{length-packed, unpacked-packed}
+use Rattle.packed.specs.Packed.{packed, unpacked}
+use Rattle.packed.proofs.PackedLaws.{packed-length, unpacked-packed}
 use Rattle.signal.specs.declared.kind.SignalEncoding.{SignalEncoding}
 use Rattle.signal.specs.declared.kind.SignalEncoding.the-variants.{BitVector, Real, Absent}
 use Rattle.signal.specs.declared.decode.ChangeValue.{ChangeValue}
@@ -50,11 +50,8 @@ module _ (a b r s : List ℕ) (n : ℕ) (e : s ≡ a ++ (b ++ r)) (q : n ≡ len
 -- symbols packed in their own class t stand before n
 module _ (w : ℕ) (a r l s : List ℕ) (n : ℕ) (size : length s ≡ w) (y : allSymbols s ≡ true)
     (e : l ≡ a ++ (packed (classOfAll s) s ++ r)) (q : n ≡ length l - length r) where
-  sized : length (packed (classOfAll s) s) ≡ packedLength w (classOfAll s)
-  sized = length-packed (classOfAll s) s ∙ ap (λ (v : ℕ). packedLength v (classOfAll s)) size
-
   pub before-is : packedBefore w (classOfAll s) n l ≡ packed (classOfAll s) s
-  before-is = subst (λ (m : ℕ). take m (drop (n - m) l) ≡ packed (classOfAll s) s) sized (part-is a (packed (classOfAll s) s) r l n e q)
+  before-is = subst (λ (m : ℕ). take m (drop (n - m) l) ≡ packed (classOfAll s) s) (packed-length (classOfAll s) w s size) (part-is a (packed (classOfAll s) s) r l n e q)
 
   wide-content : wideRead w (classOfAll s) n l ≡ s
   wide-content =
@@ -62,7 +59,7 @@ module _ (w : ℕ) (a r l s : List ℕ) (n : ℕ) (size : length s ≡ w) (y : a
 
   pub packed-there : PackedThere w (classOfAll s) n l
   packed-there = record {
-    inside = omega (arith, part-ends a (packed (classOfAll s) s) r l n e q, sized);
+    inside = omega (arith, part-ends a (packed (classOfAll s) s) r l n e q, (packed-length (classOfAll s) w s size));
     within = omega arith;
     all = rw wide-content y;
     class = ap classOfAll wide-content;

@@ -2,7 +2,7 @@
 -- Assumes nothing.
 use Prim.Native.Nat.{ℕ, zero, suc, _+_, _-_, _≤_, _<_}
 use mathlib.Core.Path.{_≡_, refl, sym, ap, _∙_, subst}
-use mathlib.Core.Bool.{Bool, true, false, _&&_}
+use mathlib.Core.Bool.{Bool, true, false, _&&_, and-true}
 use mathlib.Core.List.{List}
 use native.Mathlib.Omega.{arith}
 use borrow.Author.Tests.{eq-eqb, ne-eqb}
@@ -88,11 +88,7 @@ module _ (k : SignalEncoding) (w : ℕ) (a : List ℕ) (x : ChangeValue) (m : �
 
   pub bit-repeats : (i j : ℕ) → k ≡ BitVector w → w ≡ 1 → i ≡ bitIn x → j ≡ bitIn y → eqb i j ≡ repeats (contentRead k a x m) (contentRead k b y n)
   unfolding contentRead same
-  bit-repeats i j e z f g = rw (e, z, f, g) (and-true (eqb (bitIn x) (bitIn y)))
-    where
-      and-true : (t : Bool) → t ≡ t && true
-      and-true true = refl
-      and-true false = refl
+  bit-repeats i j e z f g = rw (e, z, f, g) (sym (and-true (eqb (bitIn x) (bitIn y))))
 
   pub real-repeats : (i j : ℕ) → k ≡ Real → i ≡ bitsIn x → j ≡ bitsIn y → eqb i j ≡ repeats (contentRead k a x m) (contentRead k b y n)
   unfolding contentRead

@@ -24,6 +24,7 @@ ghost use Rattle.loaded.specs.EntryBytes.{ownClassIn, vectorContent};
 ghost use Rattle.entry.specs.Length.{wideLength, vectorLength};
 ghost use Rattle.entry.specs.Answer.{answerReply, entryAfter, vectorHolds, contentAfter, entryValueOf};
 
+// What the bytes of one entry say.
 pub enum EntryAnswer {
     // The entry's value; a vector's symbols stand in the lent buffer.
     Value(Entry),
@@ -33,6 +34,7 @@ pub enum EntryAnswer {
     Refused(u32),
 }
 
+// That the event happened.
 pub fn event_entry() -> Entry
     ensures { λ r. ⌜ (entryReply r ≡ event 0) × (r .bits ≡ 0) ⌝ }
 {

@@ -18,6 +18,7 @@ fn has_class_byte(width: u32, class: States) -> bool
     }
 }
 
+// How many bytes each entry takes of a wider vector.
 pub fn wide_len(width: u32, class: States) -> usize
     ensures { λ r. ⌜ r ≡ wideLength width (classNumber class) ⌝ }
 {

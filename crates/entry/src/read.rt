@@ -5,6 +5,7 @@ use value::symbol::Bit;
 ghost use mathlib.Core.Path.{_≡_};
 ghost use Rattle.entry.specs.Read.{bitIn, statesIn, bitsIn};
 
+// The symbol of a vector of width 1.
 pub fn bit_in(change: ChangeValue) -> Bit
     ensures { λ r. ⌜ r .0 ≡ bitIn change ⌝ }
 {
@@ -16,6 +17,7 @@ pub fn bit_in(change: ChangeValue) -> Bit
     }
 }
 
+// The class of a wider vector's value.
 pub fn states_in(change: ChangeValue) -> States
     ensures { λ r. ⌜ r ≡ statesIn change ⌝ }
 {
@@ -27,6 +29,7 @@ pub fn states_in(change: ChangeValue) -> States
     }
 }
 
+// The bits of a real.
 pub fn bits_in(change: ChangeValue) -> u64
     ensures { λ r. ⌜ r ≡ bitsIn change ⌝ }
 {

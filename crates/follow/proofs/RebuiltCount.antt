@@ -1,6 +1,6 @@
 -- The calls rebuilt from a valid image are no more than its blocks' bytes: a time takes eight, and a change one at least.
 -- Assumes nothing.
-use Prim.Native.Nat.{ℕ, suc, _+_, _-_, _≤_}
+use Prim.Native.Nat.{ℕ, suc, _+_, _≤_}
 use mathlib.Core.Path.{_≡_, refl, ap}
 use mathlib.Core.Bool.{Bool, true, false}
 use mathlib.Core.List.{List, [], _∷_}
@@ -11,13 +11,12 @@ use lib.Dec.{eqb}
 use Rattle.lists.specs.Choice.{pick}
 use Rattle.lists.specs.Last.{lastOr}
 use Rattle.signal.specs.declared.kind.SignalEncoding.{SignalEncoding}
-use Rattle.stream.specs.Stream.{changeBytes}
-use Rattle.stream.specs.Entries.{Entry, streamBytes}
+use Rattle.stream.specs.Entries.{Entry}
 use Rattle.image.specs.Block.{Part, Block, partBytes, dataOf, blockBytes}
 use Rattle.image.specs.Image.{streamedPart, streamedParts, streamed, blocksBytes}
 use Rattle.image.proofs.SizeLaws.{block-size}
-use Rattle.codec.specs.Valid.{EntriesFit, OptionFits, PartsFit, topsAfter, firstIndex, BlockFits, BlocksFit}
-use Rattle.codec.proofs.StreamLaws.{change-long}
+use Rattle.codec.specs.Valid.{OptionFits, PartsFit, topsAfter, firstIndex, BlockFits, BlocksFit}
+use Rattle.codec.proofs.StreamLaws.{stream-long}
 use Rattle.recording.specs.Calls.{time}
 use Rattle.model.proofs.Rebuild.{bare, bares, front, behind, restOf, callsOf, roundCalls, blockCalls, firstCalls, laterCalls, restCalls, imageCalls}
 
@@ -71,17 +70,6 @@ module _ (ks : List SignalEncoding) where
   first-count (t ∷ ts) ps = omega (arith, block-calls ts 0 ps)
 
   -- ---- entries against bytes
-
-  stream-long : (k : SignalEncoding) (n i top j : ℕ) (es : List Entry) → EntriesFit k n i top es → length es ≤ length (streamBytes k j es)
-  unfolding streamBytes
-  stream-long k n i top j [] f = omega arith
-  stream-long k n i top j (e ∷ es) f =
-      omega (
-        arith,
-        length-append (changeBytes k (e .index - j) (e .content)) (streamBytes k (e .index) es),
-        change-long k (e .index - j) (e .content) (f .0 .content),
-        stream-long k n (e .index) top (e .index) es (f .1),
-      )
 
   part-long : (k : SignalEncoding) (n i before : ℕ) (p : Option (Part (List Entry))) → OptionFits k n i before p
       → length (bare p .stream) ≤ length (partBytes (streamedPart k p))

@@ -2,15 +2,13 @@
 -- Assumes nothing.
 use Prim.Native.Nat.{ℕ, zero, suc, _+_, _≤_, _<_, _^_}
 use mathlib.Core.Path.{_≡_, sym, ap, _∙_, subst}
-use mathlib.Core.Bool.{Bool, true, false}
+use mathlib.Core.Bool.{true}
 use mathlib.Core.List.{List, [], _∷_, _++_}
 use mathlib.Core.Option.{Option, some, none}
 use native.Mathlib.Nat.{add-zero, add-suc, suc-add, zero-add}
 use native.Mathlib.Omega.{arith}
 use borrow.Author.Tests.{leb-true}
 use lib.ListN.{length, getD}
-use lib.Dec.{eqb}
-use Rattle.lists.specs.Choice.{pick}
 use Rattle.lists.specs.Last.{lastOr}
 use Rattle.lists.proofs.BytesLaws.{no-bytes}
 use Rattle.packed.specs.Packed.{packed, packedLength}
@@ -25,7 +23,7 @@ use Rattle.image.specs.Block.{Part, Block}
 use Rattle.codec.specs.Valid.{EachBelow, KnownKinds, EntriesFit, OptionFits, PartsFit, topsAfter, firstIndex, BlocksFit}
 use Rattle.codec.proofs.Growth.{parts-each, parts-count}
 use Rattle.recording.specs.Calls.{Call, time, ValueFits, Fitting}
-use Rattle.model.proofs.Rebuild.{bare, bares, front, behind, restOf, callsOf, roundCalls, blockCalls, firstCalls, laterCalls, restCalls, imageCalls}
+use Rattle.model.proofs.Rebuild.{bare, bares, front, restOf, callsOf, roundCalls, blockCalls, firstCalls, laterCalls, restCalls, imageCalls, All, all-front, all-behind}
 use Rattle.follow.proofs.ChangeLaws.{packed-few}
 
 fit-append : (a b : List Call) → Fitting a → Fitting b → Fitting (a ++ b)
@@ -51,31 +49,15 @@ say-fits Real t (symbols s) k l f = absurd f
 say-fits Real t (bits b) k l f = f
 say-fits Absent t a k l f = absurd f
 
+abbrev SayFits : (k : SignalEncoding) (t : ℕ) → Entry → Type 0
+SayFits k t e = ValueFits (sayOf k t (e .content))
+
 abbrev Values : (k : SignalEncoding) (t : ℕ) → List Entry → Type 0
-Values k t [] = Unit {0}
-Values k t (e ∷ es) = ValueFits (sayOf k t (e .content)) × Values k t es
+Values k t = All (SayFits k t)
 
 entries-values : (k : SignalEncoding) (n i t : ℕ) (es : List Entry) → knownKind k ≡ true → t ≤ topLimit k → EntriesFit k n i t es → Values k t es
 entries-values k n i t [] h l f = tt
 entries-values k n i t (e ∷ es) h l f = (say-fits k t (e .content) h l (f .0 .content), entries-values k n (e .index) t es h l (f .1))
-
-values-front : (i t : ℕ) (k : SignalEncoding) (es : List Entry) → Values k t es → Values k t (front i es)
-unfolding front
-values-front i t k [] v = tt
-values-front i t k (e ∷ es) v = go (eqb (e .index) i) (values-front i t k es (v .1))
-  where
-    go : (b : Bool) → Values k t (front i es) → Values k t (pick b (e ∷ front i es) [])
-    go true q = (v .0, q)
-    go false q = tt
-
-values-behind : (i t : ℕ) (k : SignalEncoding) (es : List Entry) → Values k t es → Values k t (behind i es)
-unfolding behind
-values-behind i t k [] v = tt
-values-behind i t k (e ∷ es) v = go (eqb (e .index) i) (values-behind i t k es (v .1))
-  where
-    go : (b : Bool) → Values k t (behind i es) → Values k t (pick b (behind i es) (e ∷ es))
-    go true q = q
-    go false q = v
 
 module _ (ks : List SignalEncoding) where
   -- the values of the parts from signal g on
@@ -86,7 +68,7 @@ module _ (ks : List SignalEncoding) where
   rest-say : (i g : ℕ) (ps : List (Part (List Entry))) → PartsSay g ps → PartsSay g (restOf i ps)
   unfolding restOf
   rest-say i g [] v = tt
-  rest-say i g (p ∷ ps) v = (v .0, values-behind i (p .top) (getD ks g Absent) (p .stream) (v .1), rest-say i (suc g) ps (v .2))
+  rest-say i g (p ∷ ps) v = (v .0, all-behind (SayFits (getD ks g Absent) (p .top)) i (p .stream) (v .1), rest-say i (suc g) ps (v .2))
 
   calls-fit : (g t : ℕ) (es : List Entry) → g < 2 ^ 32 → Values (getD ks g Absent) t es → Fitting (callsOf ks g t es)
   unfolding Fitting callsOf
@@ -98,7 +80,7 @@ module _ (ks : List SignalEncoding) where
   round-fit i g [] v = tt
   round-fit i g (p ∷ ps) v =
       fit-append (callsOf ks g (p .top) (front i (p .stream))) (roundCalls ks i (suc g) ps)
-      (calls-fit g (p .top) (front i (p .stream)) (v .0) (values-front i (p .top) (getD ks g Absent) (p .stream) (v .1))) (round-fit i (suc g) ps (v .2))
+      (calls-fit g (p .top) (front i (p .stream)) (v .0) (all-front (SayFits (getD ks g Absent) (p .top)) i (p .stream) (v .1))) (round-fit i (suc g) ps (v .2))
 
   block-fit : (ts : List ℕ) (i : ℕ) (ps : List (Part (List Entry))) → EachBelow (2 ^ 64) ts → PartsSay 0 ps → Fitting (blockCalls ks i ts ps)
   unfolding Fitting blockCalls
@@ -143,7 +125,7 @@ module _ (ks : List SignalEncoding) where
         (λ j l.
         let l' : j < length ks = omega arith in
         subst (λ (x : ℕ). Values (getD ks x Absent) (bare (getD ps j none) .top) (bare (getD ps j none) .stream)) (sym (zero-add j))
-        (option-values (getD ks j Absent) n i (getD tops j 0) (getD ps j none) (known j l') (parts-each n i ks tops ps f j l')))
+        (option-values (getD ks j Absent) n i (getD tops j 0) (getD ps j none) (known j l') (parts-each n i ks tops ps f j)))
 
     rest-fit : (limit : ℕ) (end : Option ℕ) (tops : List ℕ) (ss : List (Block (List Entry))) → BlocksFit limit ks end tops ss → Fitting (restCalls ks ss)
     unfolding Fitting restCalls

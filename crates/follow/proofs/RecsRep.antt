@@ -1,11 +1,11 @@
 -- Which records stand for which changes: kind, index of the signal's last change in the open block, top class of all its changes.
 -- Assumes nothing.
-use Prim.Native.Nat.{ℕ, zero, suc, _+_, _≤_, _<_, max}
+use Prim.Native.Nat.{ℕ, zero, suc, _≤_, _<_, max}
 use mathlib.Core.Path.{_≡_, refl, sym, ap, _∙_, subst}
 use mathlib.Core.List.{List, [], _∷_, _++_, map, append-nil}
 use native.Mathlib.Omega.{arith}
 use native.Mathlib.Decide.{ℕ-discrete}
-use lib.ListN.{length, getD, set, length-set}
+use lib.ListN.{length, getD, set, length-set, length-map, List·getD-map}
 use lib.Seq.{getD-set-same, getD-set-other}
 use Rattle.value.specs.Class.{classNumber, statesOf}
 use Rattle.value.proofs.ClassLaws.{number-states, number-small}
@@ -17,7 +17,7 @@ use Rattle.stream.specs.Entries.{entry}
 use Rattle.codec.specs.Full.{lastIndex}
 use Rattle.recording.specs.declared.SignalRecord.{SignalRecord}
 use Rattle.recording.specs.Memory.{recordOf}
-use Rattle.recording.specs.Step.{rewound, fresh, kindsOf}
+use Rattle.recording.specs.Step.{rewound, fresh, kindIn, kindsOf}
 use Rattle.history.specs.History.{Change, listOf, topOf}
 use Rattle.follow.specs.Marked.{marked}
 use Rattle.follow.proofs.ChangeLaws.{list-same, list-other, top-same, top-other, last-snoc}
@@ -74,30 +74,16 @@ recs-change ks recs seen cs g m c a h l r = record { long = length-set recs g ne
 
 -- ---- a cut, a start
 
-rewound-at : (recs : List SignalRecord) (i : ℕ) → getD (map rewound recs) i noRecord ≡ rewound (getD recs i noRecord)
-rewound-at [] zero = refl
-rewound-at [] (suc i) = refl
-rewound-at (r ∷ recs) zero = refl
-rewound-at (r ∷ recs) (suc i) = rewound-at recs i
-
-length-rewound : (recs : List SignalRecord) → length (map rewound recs) ≡ length recs
-length-rewound [] = refl
-length-rewound (r ∷ recs) = ap suc (length-rewound recs)
-
 rewound-record : (k : SignalEncoding) (r : SignalRecord) (seen cs : List Change) (i : ℕ) → RecordIs k r seen cs i → RecordIs k (rewound r) (seen ++ cs) [] i
 unfolding listOf lastIndex
 rewound-record k r seen cs i q = record { kind = q .kind; index = refl; top = q .top ∙ ap (topOf i) (sym (append-nil (seen ++ cs))) }
 
 pub recs-cut : (ks : List SignalEncoding) (recs : List SignalRecord) (seen cs : List Change) → RecsRep ks recs seen cs → RecsRep ks (map rewound recs) (seen ++ cs) []
 recs-cut ks recs seen cs r = record {
-  long = length-rewound recs ∙ r .long;
-  is = λ i h. subst (λ (x : SignalRecord). RecordIs (getD ks i Absent) x (seen ++ cs) [] i) (sym (rewound-at recs i))
+  long = length-map recs rewound ∙ r .long;
+  is = λ i h. subst (λ (x : SignalRecord). RecordIs (getD ks i Absent) x (seen ++ cs) [] i) (sym (List·getD-map rewound recs i noRecord))
       (rewound-record (getD ks i Absent) (getD recs i noRecord) seen cs i (r .is i h));
 }
-
-length-fresh : (recs : List SignalRecord) → length (map fresh recs) ≡ length (kindsOf recs)
-length-fresh [] = refl
-length-fresh (r ∷ recs) = ap suc (length-fresh recs)
 
 fresh-at : (recs : List SignalRecord) (i : ℕ) → i < length (kindsOf recs) → RecordIs (getD (kindsOf recs) i Absent) (getD (map fresh recs) i noRecord) [] [] i
 unfolding listOf lastIndex topOf
@@ -106,4 +92,4 @@ fresh-at (r ∷ recs) zero h = record { kind = refl; index = refl; top = refl }
 fresh-at (r ∷ recs) (suc i) h = let q = fresh-at recs i (omega arith) in record { kind = q .kind; index = q .index; top = q .top }
 
 pub recs-start : (recs : List SignalRecord) → RecsRep (kindsOf recs) (map fresh recs) [] []
-recs-start recs = record { long = length-fresh recs; is = fresh-at recs }
+recs-start recs = record { long = length-map recs fresh ∙ sym (length-map recs kindIn); is = fresh-at recs }

@@ -5,8 +5,8 @@ use mathlib.Core.Path.{_≡_, refl, sym, ap, _∙_, subst}
 use mathlib.Core.Bool.{Bool, true, false, _||_, not}
 use mathlib.Core.List.{List, [], _∷_}
 use native.Mathlib.Omega.{arith}
-use borrow.Author.Tests.{eq-eqb, le-ltb, ltb-false, eqb-true}
-use lib.ListN.{length, getD}
+use borrow.Author.Tests.{eq-eqb, le-ltb, ltb-false, eqb-true, not-false}
+use lib.ListN.{length, getD, length-map}
 use lib.Seq.{sets, length-sets}
 use lib.Dec.{ltb, eqb}
 use Rattle.lists.specs.Choice.{pick}
@@ -21,7 +21,7 @@ use Rattle.recording.specs.declared.SignalRecord.{SignalRecord}
 use Rattle.recording.specs.Calls.{started}
 use Rattle.recording.specs.Memory.{Memory, After, after, refused}
 use Rattle.recording.specs.Refusals.{outside, unknownKind, startTests}
-use Rattle.recording.specs.Step.{startOf, kindsOf}
+use Rattle.recording.specs.Step.{startOf, kindIn, kindsOf}
 use Rattle.history.specs.History.{listOf}
 use Rattle.model.specs.Model.{noModel}
 use Rattle.model.proofs.ValidLaws.{seenOf}
@@ -33,14 +33,6 @@ use Rattle.follow.proofs.Rep.{Rep}
 use Rattle.follow.proofs.OpenLaws.{pick-false, or-false}
 
 -- ---- kinds
-
-pub length-kinds : (rs : List SignalRecord) → length (kindsOf rs) ≡ length rs
-length-kinds [] = refl
-length-kinds (r ∷ rs) = ap suc (length-kinds rs)
-
-not-false : (b : Bool) → not b ≡ false → b ≡ true
-not-false true e = refl
-not-false false e = sym e
 
 known-at : (rs : List SignalRecord) → unknownKind rs ≡ false → (i : ℕ) → i < length (kindsOf rs) → knownKind (getD (kindsOf rs) i Absent) ≡ true
 unfolding unknownKind
@@ -101,7 +93,7 @@ begun-rep : (limit signals : ℕ) (m : Memory) → Startable limit signals m →
 unfolding listOf lastIndex seenOf
 begun-rep limit signals m s =
     let ks : List SignalEncoding = kindsOf (m .records) in
-    let n : length ks ≡ signals = length-kinds (m .records) ∙ sym (s .count) in
+    let n : length ks ≡ signals = length-map (m .records) kindIn ∙ sym (s .count) in
     let i : ImageRep limit ks (headSize (length ks)) 0 (sets (m .image) 0 (headBytes limit 0 (headSize (length ks)) ks)) [] =
     image-start limit ks (m .image) (subst (λ (k : ℕ). headSize k ≤ length (m .image)) (sym n) (s .room)) in
     record {

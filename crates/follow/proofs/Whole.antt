@@ -26,7 +26,7 @@ use Rattle.follow.specs.Answers.{wayAnswer, changeAnswer, modelAnswer}
 use Rattle.follow.specs.Start.{Startable}
 use Rattle.follow.proofs.ImageRep.{imageFor}
 use Rattle.follow.proofs.Rep.{Rep}
-use Rattle.follow.proofs.Calls.{Good, step-good}
+use Rattle.follow.proofs.Calls.{step-good}
 use Rattle.follow.proofs.Start.{start-rep}
 
 -- ---- the model's answers are the history's

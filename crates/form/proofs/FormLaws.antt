@@ -2,7 +2,7 @@
 -- Assumes nothing.
 use Prim.Native.Nat.{ℕ, zero, suc, _+_}
 use mathlib.Core.Path.{_≡_, refl, sym, ap, ap₂, _∙_}
-use mathlib.Core.Bool.{Bool, true, false}
+use mathlib.Core.Bool.{true}
 use mathlib.Core.List.{List, [], _∷_, _++_, append-assoc}
 use mathlib.Core.Option.{Option, some, none}
 use native.Mathlib.Omega.{arith}
@@ -14,6 +14,7 @@ use Rattle.lists.specs.Bytes.{Bytes}
 use Rattle.lists.specs.Choice.{pick}
 use Rattle.lists.specs.Got.{Got, bad, got}
 use Rattle.lists.proofs.BytesLaws.{take-bytes}
+use Rattle.lists.proofs.GotLaws.{bad-got, by-test}
 use Rattle.numbers.specs.LittleEndian.{le, unle}
 use Rattle.numbers.proofs.LittleEndianLaws.{unle-le, le-unle, unle-lt, length-le}
 use Rattle.form.specs.Form.{Form, andThen, gotIf, getByte, byte, uint, never, only, pair, header, via, putCons, OkCons, consThen, cons, ifYes, guard, repeat, each, exact}
@@ -37,9 +38,6 @@ rest-bytes a r s e h i = rw (← (getD-append-add a r i 0), ← e) (h (length a 
 pub next-bytes : {A : Type 0} {c : Form A} {s r : List ℕ} {x : A} → Was c s x r → Bytes s → Bytes r
 next-bytes {c} {s} {r} {x} w h = rest-bytes (c .put x) r s (w .form) h
 
-pub bad-got : {A : Type 0} {B : Type 0} {x : A} {r : List ℕ} → bad ≡ got x r → B
-bad-got e = let z : _≡_ {A = ℕ} 0 1 = cc in absurd (omega arith)
-
 -- in two steps
 by-steps : {A B P : Type 0} {y : B} {q : List ℕ} (g : Got A) (k : A → List ℕ → Got B) → andThen g k ≡ got y q
     → ((a : A) (r : List ℕ) → g ≡ got a r → k a r ≡ got y q → P) → P
@@ -49,11 +47,6 @@ by-steps (got a r) k e f = f a r refl e
 pub by-found : {B P : Type 0} {y : B} {q : List ℕ} (o : Option B) (r : List ℕ) → gotIf o r ≡ got y q → (o ≡ some y → r ≡ q → P) → P
 by-found none r e f = bad-got e
 by-found (some b) r e f = f (cc) (cc)
-
--- by a test that held
-pub by-test : {A P : Type 0} {y : A} {q : List ℕ} (t : Bool) (g : Got A) → pick t g bad ≡ got y q → (t ≡ true → g ≡ got y q → P) → P
-by-test true g e f = f refl e
-by-test false g e f = bad-got e
 
 was-eq : {A : Type 0} {c : Form A} {s r q : List ℕ} {x y : A} → got x r ≡ got y q → Was c s x r → Was c s y q
 was-eq {r} {q} {x} {y} e w = let x' : x ≡ y = cc in let r' : r ≡ q = cc in rw (← x', ← r') w

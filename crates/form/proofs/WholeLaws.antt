@@ -14,8 +14,9 @@ use Rattle.lists.specs.Bytes.{Bytes}
 use Rattle.lists.specs.Choice.{pick, bind}
 use Rattle.lists.specs.Got.{Got, bad, got}
 use Rattle.lists.proofs.BytesLaws.{take-bytes}
+use Rattle.lists.proofs.GotLaws.{by-test}
 use Rattle.form.specs.Form.{Form, gotIf, Whole, ended, closed, sized, consTo, more, putChain, OkChain, getChain, chain, ifYes, such}
-use Rattle.form.proofs.FormLaws.{Was, Laws, by-test, by-found, next-bytes, room, yes-of}
+use Rattle.form.proofs.FormLaws.{Was, Laws, by-found, next-bytes, room, yes-of}
 
 pub record Wrote {A : Type 0} (w : Whole A) (s : List ℕ) (x : A) : Type 0 where
   pub fit : w .Fit x

@@ -2,10 +2,10 @@
 -- Assumes nothing.
 use Prim.Native.Nat.{ℕ, zero, suc, _+_, _*_, _≤_, _<_}
 use mathlib.Core.Path.{_≡_, refl, sym, ap, _∙_}
-use mathlib.Core.List.{List, [], _∷_, _++_, map}
+use mathlib.Core.List.{List, [], _++_, map}
 use native.Mathlib.Numerals.{add-one}
 use native.Mathlib.Omega.{arith}
-use lib.ListN.{length, getD, drop, drop-of-length-le}
+use lib.ListN.{length, getD, drop, drop-of-length-le, length-map}
 use lib.Seq.{sets, length-sets, drop-cons}
 use Rattle.lists.proofs.SetsLaws.{sets-append}
 use Rattle.numbers.specs.LittleEndian.{le}
@@ -70,13 +70,9 @@ kinds-all : (rs : List SignalRecord) (i : List ℕ) → kindsPut (length rs) rs 
 kinds-all rs i =
     rw (drop-of-length-le rs {i = length rs} (omega arith), bytes-none) at (left (length rs) rs i (omega arith))
 
-length-kinds : (l : List SignalRecord) → length (map kindIn l) ≡ length l
-length-kinds [] = refl
-length-kinds (r ∷ l) = ap suc (length-kinds l)
-
 -- the head at the start of a recording
 pub head-written : (rs : List SignalRecord) (i : List ℕ) (limit signals : ℕ) → length rs ≡ signals
     → kindsPut (length rs) rs (headNumbers limit signals i) ≡ sets i 0 (headBytes limit 0 (headSize signals) (map kindIn rs))
 unfolding headBytes kindBytes
 head-written rs i limit signals e =
-    kinds-all rs (headNumbers limit signals i) ∙ rw (length-kinds rs, e) (simp (sets-append, length-le))
+    kinds-all rs (headNumbers limit signals i) ∙ rw (length-map rs kindIn, e) (simp (sets-append, length-le))

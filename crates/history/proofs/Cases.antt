@@ -13,15 +13,12 @@ use Rattle.packed.specs.Raw.{rawSymbols}
 use Rattle.signal.specs.Content.{vcd, raw, symbols, bits, real, happened, decode}
 use Rattle.signal.specs.declared.kind.SignalEncoding.the-variants.{BitVector, Real}
 use Rattle.stream.specs.Entries.{entry}
-use Rattle.recording.specs.Calls.{Call, time, change, wayOf, taken, back, recorded, skipped}
+use Rattle.recording.specs.Calls.{time, change, wayOf, taken, back, recorded, skipped}
 use Rattle.recording.specs.Calls as calls
+use Rattle.recording.specs.Runs.{skips}
 use Rattle.history.specs.History.{noHistory, tell, tellAll, listOf, keptAfter, kept, keptOf, topOf, classOf}
 
--- times 10, 5, 10, 11, a change after each: 1, 0, 0, 1
-abbrev skips : List Call
-skips = time 10 ∷ change 0 (vcd (49 ∷ [])) ∷ time 5 ∷ change 0 (vcd (48 ∷ [])) ∷ time 10 ∷ change 0 (vcd (48 ∷ [])) ∷ time 11 ∷ change 0 (vcd (49 ∷ [])) ∷ []
-
--- the history of these calls, none refused: the same answers and count; the second 1 repeats the first and is not kept
+-- the history of `skips`, none refused: the same answers and count; the second 1 repeats the first and is not kept
 abbrev none-refused : List Bool
 none-refused = false ∷ false ∷ false ∷ false ∷ false ∷ false ∷ false ∷ false ∷ []
 

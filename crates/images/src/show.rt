@@ -11,14 +11,11 @@ use text::before;
 use text::between;
 use text::print;
 use text::print_bytes;
+use text::print_number;
 use text::wide;
 use value::real::Entry;
 use value::real::SignalValue;
 use value::states::States;
-
-fn print_number(n: u64) {
-    io::print_decimal(STDOUT_FILENO, n);
-}
 
 fn print_number_32(n: u32) {
     print_number(n as u64)

@@ -1,17 +1,15 @@
 -- How the answers of the calls that read an image cross as numbers. In each, `answer` 0 is a refusal and `value` then its number; the other
 -- answers have numbers that the recorder's calls do not use.
 -- Assumes nothing.
-use Prim.Native.Nat.{ℕ, suc}
+use Prim.Native.Nat.{ℕ}
 use mathlib.Core.Path.{_≡_}
-use mathlib.Core.Bool.{true}
 use mathlib.Core.List.{List}
 use lib.ListN.{take, drop}
-use Rattle.loaded.specs.Opener.{openOf}
 use Rattle.loaded.specs.Reader.{LoadReply, loaded, LoadAfter, TableReply, counted, TableAfter, Shown, event, vector, real, CursorReply, nothing, found, CursorAfter}
 use Rattle.loaded.specs.Reader as read
 use Rattle.entry.specs.Answer.{EntryReply, noEntry, shown, EntryAfter}
 use Rattle.entry.specs.Answer as entry
-use Rattle.walk.specs.Walk.{imageIn, partPlace, partThere}
+use Rattle.walk.specs.Walk.{imageIn, streamPlace}
 use Rattle.interface.specs.declared.answers.LoadNumbers.{LoadNumbers}
 use Rattle.interface.specs.declared.answers.TableNumbers.{TableNumbers}
 use Rattle.interface.specs.declared.answers.PartNumbers.{PartNumbers}
@@ -57,9 +55,9 @@ tableToldOf a = tableTold (tableNumbersOf (a .reply)) (a .times)
 abbrev pub partOf : PartNumbers → (image : List ℕ) → List ℕ
 partOf p b = take (p .length) (drop (p .from) b)
 
--- where a stream is there, it is that part of the image: after its class byte
+-- it begins after its class byte; at 0 where there is no stream
 abbrev pub PlaceOf : PartNumbers → (image : List ℕ) → (block signal : ℕ) → Type 0
-PlaceOf p b n g = openOf b ≡ true → partThere (imageIn b) n g ≡ true → p .from ≡ suc (partPlace (imageIn b) n g)
+PlaceOf p b n g = p .from ≡ streamPlace (imageIn b) n g
 
 -- ---- a content: an event is 0, a vector 1 with its own class, a real 2 with its bits, which fix its f64
 

@@ -17,6 +17,7 @@ pub struct StateNumbers {
     pub skipped: u32,
 }
 
+// The recording that a caller's numbers say.
 pub fn state_from(state: StateNumbers) -> Encoder
     ensures { λ r. ⌜ r ≡ stateFrom state ⌝ }
 {
@@ -46,6 +47,7 @@ fn flag_after(before: u32, on: bool) -> u32
     before
 }
 
+// A recording as numbers again; a flag that stays on keeps its number.
 pub fn state_after(before: StateNumbers, state: Encoder) -> StateNumbers
     ensures { λ r. ⌜ r ≡ stateAfter before state ⌝ }
 {

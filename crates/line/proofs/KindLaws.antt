@@ -20,7 +20,7 @@ use Rattle.storage.specs.Storage.{Storable, recordsOf}
 use Rattle.storage.proofs.StorageLaws.{kind-width, storable-absent, records-length}
 use Rattle.line.specs.Words.{word, wordsOf}
 use Rattle.line.specs.Line.{number32, vector, kindOf, kindsOf, kindsIn}
-use Rattle.line.specs.Command.{kindList, begun}
+use Rattle.line.specs.Command.{kindList, recordFor}
 use Rattle.line.proofs.WordLaws.{word-at}
 
 -- ---- one kind
@@ -44,13 +44,13 @@ module _ (w : List ℕ) where
   kind-number a b d = rw (a, b, d) refl
 
 Stored : SignalEncoding → Type 0
-Stored k = Storable (begun k)
+Stored k = Storable (recordFor k)
 
-width-stored : (n : ℕ) → n ≤ 65537 → Storable (begun (BitVector n))
+width-stored : (n : ℕ) → n ≤ 65537 → Storable (recordFor (BitVector n))
 width-stored n h = (sym (kind-width n (λ e. omega arith) (λ e. omega arith)), omega arith, omega arith)
 
 -- the record of any kind that a word can be has a number
-pub kind-stored : (w : List ℕ) (k : SignalEncoding) → some k ≡ kindOf w → Storable (begun k)
+pub kind-stored : (w : List ℕ) (k : SignalEncoding) → some k ≡ kindOf w → Storable (recordFor k)
 unfolding kindOf Stored
 kind-stored w k e =
     where-some Stored (kindOf w)

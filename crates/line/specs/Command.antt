@@ -54,10 +54,10 @@ shown l command.Finish = finish
 shown l command.NotUnderstood = notUnderstood
 
 -- the record of a signal that has no change yet
-abbrev pub begun : SignalEncoding → SignalRecord
-begun k = recordOf k 0 Two
+abbrev pub recordFor : SignalEncoding → SignalRecord
+recordFor k = recordOf k 0 Two
 
 -- the record of a kind stored; nothing where there is none
 abbrev pub putKind : List SignalRecord → (at : ℕ) → Option SignalEncoding → List SignalRecord
 putKind rs at none = rs
-putKind rs at (some k) = set rs at (begun k)
+putKind rs at (some k) = set rs at (recordFor k)

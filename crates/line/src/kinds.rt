@@ -16,8 +16,9 @@ ghost use lib.Seq.{sets};
 ghost use Rattle.lists.specs.Choice.{isSome};
 ghost use Rattle.storage.specs.Storage.{recordsOf};
 ghost use Rattle.line.specs.Line as spec;
-ghost use Rattle.line.specs.Command.{kindInside, kindList, begun, putKind};
+ghost use Rattle.line.specs.Command.{kindInside, kindList, recordFor, putKind};
 
+// The kind that a word says, or none.
 pub enum MaybeKind {
     Some(SignalEncoding),
     None,
@@ -106,7 +107,7 @@ fn put_kind(records: &mut [u64], at: u32, w: &[u8])
 // kinds are not understood has none.
 pub fn put_kinds(records: &mut [u64], line: &[u8]) -> usize
     ensures { λ r. ⌜ (r ≡ length (kindList (now (line .entry))))
-        × (recordsOf (now (records .exit)) ≡ sets (recordsOf (now (records .entry))) 0 (map begun (kindList (now (line .entry))))) ⌝ }
+        × (recordsOf (now (records .exit)) ≡ sets (recordsOf (now (records .entry))) 0 (map recordFor (kindList (now (line .entry))))) ⌝ }
 {
     if !has_kinds(line) {
         return 0;

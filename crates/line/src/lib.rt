@@ -22,6 +22,7 @@ ghost use mathlib.Core.Path.{_≡_};
 ghost use Rattle.line.specs.Line.{lendOf, startOf, timeOf, vcdOf, rawOf, realOf, callOf, lineOf};
 ghost use Rattle.line.specs.Command.{shown};
 
+// What a line asks for, with its numbers.
 pub enum Command {
     // A comment or an empty line.
     Nothing,

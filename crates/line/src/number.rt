@@ -4,11 +4,13 @@ ghost use Prim.Native.Nat.{_≤_};
 ghost use Rattle.line.specs.Numbers.{digitOf, numberTo, bitsOf};
 ghost use Rattle.line.specs.Command.{valueIn, valueIn32};
 
+// A number of 64 bits, or none.
 pub enum Number {
     Value(u64),
     None,
 }
 
+// A number of 32 bits, or none.
 pub enum Number32 {
     Value(u32),
     None,

@@ -1,14 +1,10 @@
--- The bench sheet's image and its listing, whole; a listing with every other kind of line, computed; and refusals.
+-- The bench sheet's image and its listing, whole; and a listing with every other kind of line, computed.
 -- Assumes nothing.
-use Prim.Native.Nat.{ℕ, _<_}
 use mathlib.Core.Path.{_≡_, refl, ap}
-use mathlib.Core.Bool.{Bool, true, false}
-use mathlib.Core.List.{List, [], _∷_}
+use mathlib.Core.Bool.{true}
+use mathlib.Core.List.{[], _∷_}
 use mathlib.Core.Option.{some, none}
-use borrow.Author.Tests.{lt-leb}
-use lib.Dec.{leb}
 use lib.ListN.{length}
-use Rattle.lists.specs.Choice.{pick}
 use Rattle.lists.specs.Last.{lastOr}
 use Rattle.lists.specs.Same.{same}
 use Rattle.ascii.specs.Ascii.{ascii, decimalIn, hexadecimal}
@@ -25,11 +21,11 @@ use Rattle.image.specs.Head.{headBytes}
 use Rattle.image.specs.Image.{Image, image, streamedParts, blocksBytes, imageBytes}
 use Rattle.form.specs.Decide.{false-true}
 use Rattle.codec.specs.Valid.{Valid, risingFrom?, rising?, eachBelow?, knownKinds?, contentFits?, entryFits?, entriesFit?, partFits?, partsFit?, begins?, filled?, blockFits?, blocksFit?, valid?}
-use Rattle.codec.specs.Parse.{parse}
 use Rattle.codec.proofs.Trip.{parse-of}
 use Rattle.loaded.specs.Loading.{tableFrom, moved, repeatsLast, pushed, loadFrom}
 use Rattle.loaded.proofs.BenchLoads.{benchBytes, bench-parse}
-use Rattle.listing.specs.Listing.{timeLines, entryLines, signalsFrom, imageText, textOf, inputLimit, listingOf}
+use Rattle.reading.specs.Decided.{isYes}
+use Rattle.listing.specs.Listing.{timeLines, entryLines, signalsFrom, imageText, textOf, listingOf}
 
 pub bench-listing : listingOf benchBytes ≡ ascii "signals 2 times 2 blocks 1\ntime 0 10\ntime 1 20\nsignal 0 width 1 class 0 changes 1\n0 1\nsignal 1 width 4 class 1 changes 2\n0 001x\n1 0001\n"
 unfolding listingOf imageText timeLines signalsFrom entryLines decimalIn tableFrom loadFrom pushed repeatsLast moved same lastOr
@@ -53,10 +49,6 @@ allKinds =
     ∷ some (part 2 (entry 1 (symbols (1 ∷ 0 ∷ 1 ∷ [])) ∷ []))
     ∷ none ∷ []) ∷ [])
 
-abbrev isYes : {A : Type 0} → Dec A → Bool
-isYes (yes a) = true
-isYes (no n) = false
-
 decided : {A : Type 0} (d : Dec A) → isYes d ≡ true → A
 decided (yes a) e = a
 decided (no n) e = absurd (false-true e)
@@ -72,17 +64,3 @@ kinds-bytes = refl
 pub kinds-listing : listingOf (imageBytes allKinds) ≡ ascii "signals 5 times 3 blocks 2\ntime 0 5\ntime 1 7\ntime 2 18446744073709551615\nsignal 0 event changes 2\n1\n2\nsignal 1 real changes 2\n0 0000000000000000\n1 8000000000000000\nsignal 2 absent\nsignal 3 width 3 class 2 changes 2\n0 1-x\n2 101\nsignal 4 width 1 class 2 changes 0\n"
 unfolding listingOf imageText timeLines signalsFrom entryLines decimalIn hexadecimal tableFrom loadFrom pushed repeatsLast moved same lastOr
 kinds-listing = rw kinds-bytes (ap textOf (parse-of allKinds kinds-valid))
-
--- ---- refusals: a longer input, and bytes that are no image
-
-pub long-refused : (b : List ℕ) → inputLimit < length b → listingOf b ≡ ascii "refused 11\n"
-unfolding listingOf
-long-refused b h = rw (lt-leb (length b) inputLimit h) refl
-
-pub other-refused : (b : List ℕ) → parse b ≡ none → listingOf b ≡ ascii "refused 11\n"
-unfolding listingOf
-other-refused b e = rw e (by (leb (length b) inputLimit))
-  where
-    by : (t : Bool) → pick t (textOf none) (textOf none) ≡ textOf none
-    by true = refl
-    by false = refl

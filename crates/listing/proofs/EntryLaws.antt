@@ -42,10 +42,6 @@ letters-more s i h = rw (drop-cons s i 0 h) refl
 pub letters-none : (s : List ℕ) (i : ℕ) → length s ≤ i → map letterOf (drop i s) ≡ []
 letters-none s i h = rw (drop-of-length-le s {i = i} h) refl
 
-pub letters-length : (s : List ℕ) → length (map letterOf s) ≡ length s
-letters-length [] = refl
-letters-length (x ∷ s) = ap suc (letters-length s)
-
 -- ---- one entry
 
 -- a text at the start of a buffer, read again

@@ -2,23 +2,25 @@
 -- Assumes nothing.
 use Prim.Native.Nat.{ℕ, _≤_, _<_}
 use mathlib.Core.Path.{_≡_, refl, sym, ap, _∙_}
-use mathlib.Core.Bool.{false}
 use mathlib.Core.List.{List, []}
+use mathlib.Core.Option.{none}
 use native.Mathlib.Omega.{arith}
 use borrow.Author.Tests.{lt-leb, le-leb, le-ltb}
+use lib.Dec.{leb}
 use lib.ListN.{length, take}
 use lib.Seq.{sets, length-sets}
 use Rattle.lists.specs.Bytes.{Bytes}
+use Rattle.lists.proofs.ChoiceLaws.{pick-same}
 use Rattle.ascii.specs.Ascii.{ascii}
 use Rattle.ascii.specs.Put.{Room, Puts}
 use Rattle.ascii.proofs.PutLaws.{puts-length}
 use Rattle.image.specs.Image.{Image}
-use Rattle.loaded.specs.Opener.{openOf}
+use Rattle.codec.specs.Parse.{parse}
 use Rattle.loaded.specs.Loading.{tableFrom}
 use Rattle.loaded.specs.Reader.{TableReply, TableAfter, counted, tableAfter, tableIn}
 use Rattle.walk.specs.Walk.{imageIn}
-use Rattle.walk.proofs.OpenLaws.{parse-opened, parse-closed}
-use Rattle.listing.specs.Listing.{headLine, imageText, inputLimit, listingOf, listingLimit, listingAfter, written, tooShort, into}
+use Rattle.walk.proofs.OpenLaws.{parse-opened}
+use Rattle.listing.specs.Listing.{headLine, imageText, textOf, inputLimit, listingOf, listingLimit, listingAfter, written, tooShort, into}
 use Rattle.listing.specs.Written.{Taken}
 use Rattle.listing.proofs.BoundLaws.{table-few, listing-fits}
 use Rattle.listing.proofs.EntryLaws.{taken-back}
@@ -49,13 +51,14 @@ table-read b n r times out y o h ne e =
 
 -- ---- the whole
 
-pub listing-long : (b : List ℕ) → inputLimit < length b → ascii "refused 11\n" ≡ listingOf b
+-- a longer input is refused, and bytes that are no image
+pub long-refused : (b : List ℕ) → inputLimit < length b → listingOf b ≡ ascii "refused 11\n"
 unfolding listingOf
-listing-long b h = rw (lt-leb (length b) inputLimit h) refl
+long-refused b h = rw (lt-leb (length b) inputLimit h) refl
 
-pub listing-closed : (b : List ℕ) → length b ≤ inputLimit → openOf b ≡ false → ascii "refused 11\n" ≡ listingOf b
+pub other-refused : (b : List ℕ) → parse b ≡ none → listingOf b ≡ ascii "refused 11\n"
 unfolding listingOf
-listing-closed b h c = rw (le-leb (length b) inputLimit h, parse-closed b c) refl
+other-refused b e = rw e (pick-same (leb (length b) inputLimit) (textOf none))
 
 pub listing-opened : (b : List ℕ) → Taken b → imageText (imageIn b) ≡ listingOf b
 unfolding listingOf

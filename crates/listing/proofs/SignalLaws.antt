@@ -1,13 +1,13 @@
 -- The lines of a signal, out of what loading answered and wrote.
 -- Assumes nothing.
-use Prim.Native.Nat.{ℕ, suc, _+_, _≤_, _<_}
+use Prim.Native.Nat.{ℕ, _+_, _≤_, _<_}
 use mathlib.Core.Path.{_≡_, refl, sym, ap, ap₂, _∙_, subst}
 use mathlib.Core.Bool.{Bool, true, false}
 use mathlib.Core.List.{List, [], _∷_, _++_, map, append-nil}
 use native.Mathlib.Omega.{arith}
 use borrow.Author.Tests.{lt-leb, le-ltb, leb-true}
 use lib.Dec.{ltb}
-use lib.ListN.{length, take, drop}
+use lib.ListN.{length, take, drop, length-map}
 use lib.Seq.{sets, sets-eq, length-sets}
 use Rattle.lists.specs.Bytes.{Bytes}
 use Rattle.signal.specs.declared.kind.SignalEncoding.{SignalEncoding}
@@ -71,10 +71,6 @@ pub record SignalRead (b : List ℕ) (g : ℕ) (k : SignalEncoding) (c number n 
   pub size : n ≡ length (take n index)
   pub inside : n ≤ length index
 
-index-count : (es : List Entry) → length (map indexIn es) ≡ length es
-index-count [] = refl
-index-count (e ∷ es) = ap suc (index-count es)
-
 read-same : {k q : SignalEncoding} {c d : ℕ} {i j b a : List ℕ} (es : List Entry) → k ≡ q → c ≡ d → i ≡ j → b ≡ a → entriesRead q d j a ≡ es → entriesRead k c i b ≡ es
 read-same es ke ce ie be h = rw (ke, ce, ie, be) h
 
@@ -97,7 +93,7 @@ read-known b g k c number n index bytes i₀ b₀ out y o room ke ne e =
     let ce : c ≡ C = cc in
     let le : n ≡ length es = cc in
     let few = entries-few x v (small-in b y o) g in
-    let mc : n ≡ length (map indexIn es) = le ∙ sym (index-count es) in
+    let mc : n ≡ length (map indexIn es) = le ∙ sym (length-map es indexIn) in
     let ie : take n index ≡ map indexIn es = ap (λ (a : LoadAfter). take n (a .index)) e ∙ taken-back (map indexIn es) i₀ n mc (omega arith) in
     let be : bytes ≡ held ++ drop (0 + length held) b₀ = ap (λ (a : LoadAfter). a .bytes) e ∙ sets-eq held b₀ 0 (omega (arith, bytes-few x v (small-in b y o) g)) in
     let w : widthOf q ≤ 65536 = wide-most q (known b g y (o .0)) in

@@ -17,6 +17,7 @@ ghost use Rattle.ascii.specs.Put.{Puts};
 ghost use Rattle.listing.specs.Listing.{listingOf, listingAfter, into, listingLimit};
 ghost use Rattle.listing.specs.Written.{listedReply};
 
+// What a listing answers.
 pub enum Listed {
     // The text's length; it stands at the start of the lent buffer.
     Text(usize),

@@ -1,9 +1,10 @@
--- Parts of a list of bytes are lists of bytes, and a byte before one makes another.
+-- Parts of a list of bytes are lists of bytes, and a byte before one makes another. And a list of zeros.
 -- Assumes nothing.
 use Prim.Native.Nat.{ℕ, zero, suc, _+_, _<_}
+use mathlib.Core.Path.{_≡_, refl}
 use mathlib.Core.List.{List, [], _∷_}
 use native.Mathlib.Omega.{arith}
-use lib.ListN.{drop, take}
+use lib.ListN.{getD, drop, take, replicate}
 use lib.Seq.{getD-drop}
 use Rattle.lists.specs.Bytes.{Bytes}
 
@@ -25,3 +26,8 @@ take-bytes zero s h i = omega arith
 take-bytes (suc n) [] h i = omega arith
 take-bytes (suc n) (b ∷ s) h zero = h 0
 take-bytes (suc n) (b ∷ s) h (suc i) = take-bytes n s (tail-bytes b s h) i
+
+pub zeros-at : (n i : ℕ) → getD (replicate {A = ℕ} n 0) i 0 ≡ 0
+zeros-at zero i = refl
+zeros-at (suc n) zero = refl
+zeros-at (suc n) (suc i) = zeros-at n i

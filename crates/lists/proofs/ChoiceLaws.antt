@@ -46,6 +46,11 @@ pub none-holds : (a b : Bool) → a || b ≡ false → (a ≡ false) × (b ≡ f
 none-holds false b e = (refl, e)
 none-holds true b e = (cc, cc)
 
+-- a choice between the same
+pub pick-same : {A : Type 0} (t : Bool) (x : A) → pick t x x ≡ x
+pick-same true x = refl
+pick-same false x = refl
+
 -- one, or nothing
 pub pick-one : (t : Bool) → pick t 1 0 ≤ 1
 pick-one true = omega arith

@@ -17,7 +17,7 @@ use Rattle.numbers.proofs.LittleEndianLaws.{unle-le}
 use Rattle.value.specs.Class.{bitsOf, classOfAll, allSymbols}
 use Rattle.packed.specs.Packed.{numberOf, digits, packedLength, packed, unpacked, topClear}
 use Rattle.packed.specs.Raw.{lastOf}
-use Rattle.packed.proofs.PackedLaws.{digits-mod, length-packed, unpacked-packed, packed-top}
+use Rattle.packed.proofs.PackedLaws.{digits-mod, length-packed, packed-length, unpacked-packed, packed-top}
 use Rattle.packed.proofs.RawLaws.{last-after}
 use Rattle.signal.specs.declared.kind.SignalEncoding.{SignalEncoding}
 use Rattle.signal.specs.declared.kind.SignalEncoding.the-variants.{BitVector, Real, Absent}
@@ -104,9 +104,6 @@ module _ (w c t : ℕ) (s : List ℕ) (wide : 0 < w) (e : length s ≡ w) (y : a
   last-is : (a : List ℕ) → unpacked w t (lastOf (packedLength w t) (a ++ packed t s)) ≡ s
   last-is a = after-others w t a s e y (omega arith)
 
-  length-is : length (packed t s) ≡ packedLength w t
-  length-is = length-packed t s ∙ ap (λ (v : ℕ). packedLength v t) e
-
   class-byte : 0 < c → Reads (t * 64 ∷ filledTo (packedLength w c) (packed t s))
   class-byte z =
       reads (t * 64 ∷ filledTo (packedLength w c) (packed t s)) (own-first c (t * 64) t _ z (omega arith))
@@ -124,7 +121,7 @@ module _ (w c t : ℕ) (s : List ℕ) (wide : 0 < w) (e : length s ≡ w) (y : a
       let top : topClear w t (x ∷ r) ≡ true =
       subst (λ (b : List ℕ). topClear w t b ≡ true) q (subst (λ (v : ℕ). topClear v t (packed t s) ≡ true) e (packed-top t s y (omega arith))) in
       let small = first-small w t x r free top in
-      let n : length ((t * 64 + x) ∷ r) ≡ packedLength w t = ap length (sym q) ∙ length-is in
+      let n : length ((t * 64 + x) ∷ r) ≡ packedLength w t = ap length (sym q) ∙ packed-length t w s e in
       let back : unpacked w t (x ∷ r) ≡ s = subst (λ (b : List ℕ). unpacked w t b ≡ s) q (subst (λ (v : ℕ). unpacked v t (packed t s) ≡ s) e (unpacked-packed t s y (omega arith))) in
       reads ((t * 64 + x) ∷ r) (own-first c (t * 64 + x) t r z (omega arith))
       (ap (unpacked w t) (last-after [] ((t * 64 + x) ∷ r) (packedLength w t) n) ∙ carried-unpacked w t x r free ∙ back)
@@ -137,7 +134,7 @@ module _ (w c t : ℕ) (s : List ℕ) (wide : 0 < w) (e : length s ≡ w) (y : a
   by-fill zero q f z = by-bytes (packed t s) refl
     where
       by-bytes : (b : List ℕ) → packed t s ≡ b → Reads (carrying (t * 64) b)
-      by-bytes [] p = let n = length-is in let l = ap length p in absurd (by-class t n l)
+      by-bytes [] p = let n = packed-length t w s e in let l = ap length p in absurd (by-class t n l)
         where
           by-class : (t : ℕ) → length (packed t s) ≡ packedLength w t → length (packed t s) ≡ 0 → ⊥
           by-class zero n l = omega arith
@@ -146,7 +143,7 @@ module _ (w c t : ℕ) (s : List ℕ) (wide : 0 < w) (e : length s ≡ w) (y : a
       by-bytes (x ∷ r) p =
           let l = ap length p in
           let b = free-bits w c t h k f z in
-          carried-first x r p (omega (arith, length-is)) z
+          carried-first x r p (omega (arith, packed-length t w s e)) z
 
   wide-by : (u : Bool) → (ltb 0 c && eqb (w % (8 / bitsOf c)) 0) ≡ u
       → Reads (pick u (t * 64 ∷ filledTo (packedLength w c) (packed t s)) (carrying (t * 64) (filledTo (packedLength w c) (packed t s))))

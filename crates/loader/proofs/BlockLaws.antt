@@ -7,7 +7,7 @@ use mathlib.Core.List.{List, [], _∷_, _++_}
 use mathlib.Core.Option.{Option, some, none}
 use native.Mathlib.Omega.{arith}
 use lib.ListN.{length, getD, take, drop, length-append, length-drop, take-append-drop}
-use lib.Seq.{length-take-le}
+use lib.Seq.{length-take-le, drop-cons}
 use Rattle.lists.specs.Bytes.{Bytes}
 use Rattle.signal.specs.declared.kind.SignalEncoding.{SignalEncoding}
 use Rattle.signal.specs.declared.kind.SignalEncoding.the-variants.{Absent}
@@ -15,18 +15,18 @@ use Rattle.signal.specs.declared.decode.ChangeValue.{ChangeValue}
 use Rattle.stream.specs.declared.read.ReadChange.the-variants as read
 use Rattle.stream.specs.Answer.{changeAt}
 use Rattle.stream.specs.Entries.{Entry, streamBytes}
-use Rattle.image.specs.Block.{Part, Block, block, dataOf, partBytes}
+use Rattle.image.specs.Block.{Part, block, dataOf, partBytes}
 use Rattle.image.specs.Head.{imageLimit}
-use Rattle.image.specs.Image.{streamedParts, streamedPart}
-use Rattle.codec.specs.Valid.{EntriesFit, OptionFits, PartsFit, firstIndex, BlockFits, BlocksFit}
-use Rattle.codec.proofs.Growth.{parts-count}
+use Rattle.image.specs.Image.{Image, streamedParts, streamedPart}
+use Rattle.codec.specs.Valid.{firstIndex}
+use Rattle.codec.proofs.Growth.{parts-each, parts-count, Fitting}
 use Rattle.codec.proofs.ImageFits.{filled-small}
 use Rattle.loaded.specs.Opener.{kindAt, blockAt, partAt, streamIn}
 use Rattle.loaded.specs.Loading.{entriesIn, topIn}
 use Rattle.walk.specs.Walk.{Opened, imageIn, blockPlace, BlockHere, PartHere}
 use Rattle.walk.proofs.HeadLaws.{means, head-in}
-use Rattle.walk.proofs.BlockLaws.{here, next-size}
-use Rattle.walk.proofs.PartLaws.{stream-entries}
+use Rattle.walk.proofs.BlockLaws.{fits-in, here, next-size}
+use Rattle.walk.proofs.PartLaws.{stream-entries, entries-fit}
 use Rattle.entry.specs.Kept.{KeptReads}
 use Rattle.loader.specs.Output.{allTaken, Room, outputAs}
 use Rattle.loader.specs.Blocks.{baseOf, changesIn, topOf}
@@ -43,30 +43,9 @@ base-small (suc n) t = omega arith
 
 -- ---- a block of a valid image
 
--- the block fits after those before it
-pub record Fitting (limit : ℕ) (ks : List SignalEncoding) (y : Block (List Entry)) : Type 0 where
-  pub end : Option ℕ
-  pub tops : List ℕ
-  pub follow : ℕ
-  pub fits : BlockFits limit ks end tops y follow
-
-block-fits : (limit : ℕ) (ks : List SignalEncoding) (end : Option ℕ) (tops : List ℕ) (bs : List (Block (List Entry))) (n : ℕ) → BlocksFit limit ks end tops bs
-    → n < length bs → Fitting limit ks (getD bs n (block [] []))
-block-fits limit ks end tops [] n f h = absurd (omega arith)
-block-fits limit ks end tops (y ∷ bs) zero f h = record { end = end; tops = tops; follow = length bs; fits = f .0 }
-block-fits limit ks end tops (y ∷ bs) (suc n) f h = block-fits limit ks _ _ bs n (f .1) (omega arith)
-
-pub part-fits : (n i : ℕ) (ks : List SignalEncoding) (tops : List ℕ) (ps : List (Option (Part (List Entry)))) (g : ℕ) → PartsFit n i ks tops ps
-    → (before : ℕ) × OptionFits (getD ks g Absent) n i before (getD ps g none)
-part-fits n i [] tops [] g f = (0, tt)
-part-fits n i [] tops (p ∷ ps) g f = absurd f
-part-fits n i (k ∷ ks) tops [] g f = absurd f
-part-fits n i (k ∷ ks) tops (p ∷ ps) zero f = (getD tops 0 0, f .0)
-part-fits n i (k ∷ ks) tops (p ∷ ps) (suc g) f = part-fits n i ks (drop 1 tops) ps g (f .1)
-
-pub entries-fit : (k : SignalEncoding) (n i before : ℕ) (p : Option (Part (List Entry))) → OptionFits k n i before p → EntriesFit k n i (topIn p) (entriesIn p)
-entries-fit k n i before none f = tt
-entries-fit k n i before (some p) f = f .entries
+-- the blocks left at one that is there
+pub blocks-left : (x : Image) (number : ℕ) → number < length (x .blocks) → drop number (x .blocks) ≡ blockAt x number ∷ drop (suc number) (x .blocks)
+blocks-left x number h = drop-cons (x .blocks) number (block [] []) h
 
 -- ---- where the stream stands
 
@@ -105,8 +84,8 @@ begins b number at g from to top y o h p =
     let k = kindAt x g in
     let m = means b y o in
     let q = partAt n g in
-    let f : Fitting (x .limit) ks n = block-fits (x .limit) ks none [] (x .blocks) number (m .valid .blocks) (h .exists) in
-    let pf = part-fits (length (n .times)) (firstIndex (f .end)) ks (f .tops) (n .parts) g (f .fits .parts) in
+    let f : Fitting (x .limit) ks n = fits-in number b y o (h .exists) in
+    let pf = parts-each (length (n .times)) (firstIndex (f .end)) ks (f .tops) (n .parts) (f .fits .parts) g in
     let s : take (to - from) (drop from b) ≡ streamBytes k 0 (entriesIn q) = p .stream ∙ stream-entries k q in
     let size : length (streamIn k q) ≡ to - from = part-size b number g from to top p in
     let ls : length (streamBytes k 0 (entriesIn q)) ≡ to - from = sym (ap length (stream-entries k q)) ∙ size in
@@ -125,7 +104,7 @@ begins b number at g from to top y o h p =
         bytes = sym (take-append-drop (to - from) (drop from b)) ∙ ap (λ (l : List ℕ). l ++ drop (to - from) (drop from b)) s;
         size = omega (arith, p .ordered);
         inside = p .inside;
-        fits = entries-fit k _ _ (pf .0) q (pf .1);
+        fits = entries-fit k _ _ _ q pf;
         order = omega arith;
       };
       prev = refl;

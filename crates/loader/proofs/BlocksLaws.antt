@@ -8,12 +8,13 @@ use mathlib.Core.Option.{Option, some, none}
 use native.Mathlib.Omega.{arith}
 use borrow.Author.Tests.{eq-eqb}
 use lib.ListN.{length, drop, length-append, drop-of-length-le}
-use lib.Seq.{drop-cons, length-sets}
+use lib.Seq.{length-sets}
 use Rattle.lists.specs.Bytes.{Bytes}
 use Rattle.lists.specs.Last.{lastOr}
+use Rattle.lists.proofs.LastLaws.{last-append}
 use Rattle.signal.specs.declared.kind.SignalEncoding.{SignalEncoding}
 use Rattle.stream.specs.Entries.{Entry}
-use Rattle.image.specs.Block.{Block, block}
+use Rattle.image.specs.Block.{Block}
 use Rattle.image.specs.Head.{imageLimit}
 use Rattle.image.specs.Image.{Image}
 use Rattle.codec.specs.Valid.{topsAfter, BlocksFit}
@@ -22,7 +23,7 @@ use Rattle.loaded.specs.Opener.{kindAt, blockAt, partAt}
 use Rattle.loaded.specs.Loading.{overlap, joinTimes, moved, pushed, Load, load, entriesIn, loadBlock, loadFrom, loads}
 use Rattle.loaded.specs.EntryBytes.{entriesBytes}
 use Rattle.loaded.specs.Reader.{indexIn}
-use Rattle.walk.specs.Walk.{Opened, imageIn, blockPlace, BlockHere}
+use Rattle.walk.specs.Walk.{Opened, imageIn, blockPlace}
 use Rattle.walk.proofs.HeadLaws.{means, head-in}
 use Rattle.walk.proofs.BlockLaws.{here, next-size, end-place}
 use Rattle.entry.specs.Kept.{KeptReads}
@@ -30,18 +31,13 @@ use Rattle.loader.specs.Output.{Output, output, allTaken, Room, nothingK
 use Rattle.loader.specs.Blocks.{baseOf, changesIn, topOf}
 use Rattle.loader.specs.declared.changes.Loading.{Loading}
 use Rattle.loader.proofs.OutputLaws.{taken-pushed, Grows, grows-same, grows-both, all-grows, room-first}
-use Rattle.loader.proofs.BlockLaws.{base-small}
+use Rattle.loader.proofs.BlockLaws.{base-small, blocks-left}
 
 -- ---- the combined table
 
 abbrev pub lastTime : List ℕ → Option ℕ
 lastTime [] = none
 lastTime (x ∷ l) = some (lastOr x l)
-
-last-append : (d v : ℕ) (l vs : List ℕ) → lastOr d (l ++ v ∷ vs) ≡ lastOr v vs
-unfolding lastOr
-last-append d v [] vs = refl
-last-append d v (x ∷ l) vs = last-append x v l vs
 
 -- a block's times after a table: how many of them are there already, and the table then
 pub record Joined (number : ℕ) (l ts : List ℕ) : Type 0 where
@@ -60,7 +56,7 @@ joined-later number x t l (v ∷ ts) e h =
     record {
       base = ap (λ (n : ℕ). length (x ∷ l) - n) o;
       size = ap length j ∙ omega arith;
-      last = ap lastTime j ∙ ap some (last-append x v l ts);
+      last = ap lastTime j ∙ ap some (last-append x l (v ∷ ts));
       more = omega (arith, ap length j);
     }
 
@@ -154,21 +150,15 @@ module _ (b : List ℕ) (g c : ℕ) (w : Bool) (index bytes : List ℕ) (number 
   abbrev next : Block (List Entry)
   next = blockAt x number
 
-  pub block-here : BlockHere number at b
-  block-here = record { exists = h; place = p .place }
-
-  left : drop number (x .blocks) ≡ next ∷ drop (suc number) (x .blocks)
-  left = drop-cons (x .blocks) number (block [] []) h
-
   fit-next : BlocksFit (x .limit) (x .kinds) (lastTime (p .l .times)) (p .tops) (next ∷ drop (suc number) (x .blocks))
-  fit-next = subst (λ (bs : List (Block (List Entry))). BlocksFit (x .limit) (x .kinds) (lastTime (p .l .times)) (p .tops) bs) left (p .fit)
+  fit-next = subst (λ (bs : List (Block (List Entry))). BlocksFit (x .limit) (x .kinds) (lastTime (p .l .times)) (p .tops) bs) (blocks-left x number h) (p .fit)
 
   joined : Joined number (p .l .times) (next .times)
   joined = joined-by number (p .l .times) (next .times) (fit-next .0 .begins) (p .none-yet) (omega (arith, p .size, p .many))
 
   rest-next : loadFrom g (loadBlock g (p .l) next) (drop (suc number) (x .blocks)) ≡ loads g (x .blocks)
   unfolding loadFrom
-  rest-next = subst (λ (bs : List (Block (List Entry))). loadFrom g (p .l) bs ≡ loads g (x .blocks)) left (p .rest)
+  rest-next = subst (λ (bs : List (Block (List Entry))). loadFrom g (p .l) bs ≡ loads g (x .blocks)) (blocks-left x number h) (p .rest)
 
   -- what the block's changes make of the output
   made : allTaken (kindAt x g) c w (outputAs (kindAt x g) b s index' bytes') (changesIn x number g times) ≡ holding (kindAt x g) c w index bytes (loadBlock g (p .l) next .entries)
@@ -197,7 +187,7 @@ module _ (b : List ℕ) (g c : ℕ) (w : Bool) (index bytes : List ℕ) (number 
   next-times =
       let n = next-size x number h in
       let q = p .place in
-      let i = here number at b y o block-here .most in
+      let i = here number at b y o (record { exists = h; place = p .place }) .most in
       let m = head-in b y o .most in
       (omega arith, omega arith)
 

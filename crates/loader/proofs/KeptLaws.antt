@@ -21,11 +21,12 @@ use Rattle.stream.specs.Entries.{Entry, orNine}
 use Rattle.image.specs.Block.{Part, Block}
 use Rattle.image.specs.Image.{Image}
 use Rattle.codec.specs.Valid.{EntriesFit, OptionFits, topsAfter, firstIndex, BlocksFit, Valid}
+use Rattle.codec.proofs.Growth.{parts-each}
 use Rattle.loaded.specs.Opener.{kindAt, partAt, streamIn}
 use Rattle.loaded.specs.Loading.{overlap, joinTimes, tableFrom, moved, repeatsLast, pushed, Load, load, entriesIn, topIn, loadBlock, loadFrom, loads, signalClass}
 use Rattle.entry.proofs.EntriesLaws.{EachFits}
+use Rattle.walk.proofs.PartLaws.{entries-fit}
 use Rattle.loader.specs.Least.{leastLength, streamsLength}
-use Rattle.loader.proofs.BlockLaws.{part-fits, entries-fit}
 use Rattle.loader.proofs.BlocksLaws.{class-grows}
 use Rattle.loader.proofs.LeastLaws.{part-least}
 
@@ -102,9 +103,9 @@ module _ (limit : ℕ) (ks : List SignalEncoding) (g : ℕ) where
   unfolding loadFrom
   loads-kept c n end tops l [] f h z e = e
   loads-kept c n end tops l (y ∷ bs) f h z e =
-      let p = part-fits (length (y .times)) (firstIndex end) ks tops (y .parts) g (f .0 .parts) in
+      let p = parts-each (length (y .times)) (firstIndex end) ks tops (y .parts) (f .0 .parts) g in
       let new = moved-kept kind c n (length (y .times)) (firstIndex end) (topIn (partAt y g)) (length (l .times) - overlap (l .times) (y .times)) (entriesIn (partAt y g))
-      (entries-fit kind (length (y .times)) (firstIndex end) (p .0) (partAt y g) (p .1))
+      (entries-fit kind (length (y .times)) (firstIndex end) (getD tops g 0) (partAt y g) p)
       (omega (arith, class-grows g (loadBlock g l y) bs))
       (omega (arith, times-grow g (loadBlock g l y) bs, joined-length (l .times) (y .times))) in
       loads-kept c n (some (lastOr 0 (y .times))) (topsAfter tops (y .parts)) (loadBlock g l y) bs (f .1) h z (pushed-kept kind c n (l .entries) _ e new)
@@ -126,8 +127,8 @@ class-two : (limit : ℕ) (ks : List SignalEncoding) (end : Option ℕ) (tops : 
 unfolding loadFrom
 class-two limit ks end tops g l [] f h = h
 class-two limit ks end tops g l (y ∷ bs) f h =
-    let p = part-fits (length (y .times)) (firstIndex end) ks tops (y .parts) g (f .0 .parts) in
-    let t = top-two (getD ks g Absent) _ _ (p .0) (partAt y g) (p .1) in
+    let p = parts-each (length (y .times)) (firstIndex end) ks tops (y .parts) (f .0 .parts) g in
+    let t = top-two (getD ks g Absent) _ _ _ (partAt y g) p in
     class-two limit ks (some (lastOr 0 (y .times))) (topsAfter tops (y .parts)) g (loadBlock g l y) bs (f .1) (omega arith)
 
 nine-most : (es : List Entry) (c : ℕ) → c ≤ 2 → orNine es c ≤ 2
@@ -186,8 +187,8 @@ kept-few limit ks g end tops l (y ∷ bs) f =
     let k : SignalEncoding = getD ks g Absent in
     let es : List Entry = entriesIn (partAt y g) in
     let m : ℕ = length (l .times) - overlap (l .times) (y .times) in
-    let p = part-fits (length (y .times)) (firstIndex end) ks tops (y .parts) g (f .0 .parts) in
-    let here : length es * leastLength k ≤ length (streamIn k (partAt y g)) = part-least k (length (y .times)) (firstIndex end) (p .0) (partAt y g) (p .1) in
+    let p = parts-each (length (y .times)) (firstIndex end) ks tops (y .parts) (f .0 .parts) g in
+    let here : length es * leastLength k ≤ length (streamIn k (partAt y g)) = part-least k (length (y .times)) (firstIndex end) (getD tops g 0) (partAt y g) p in
     let grown : length (loadBlock g l y .entries) ≤ length (l .entries) + length es = omega (arith, pushed-few (l .entries) (moved m es), length-moved m es) in
     let most : length (loadBlock g l y .entries) * leastLength k ≤ (length (l .entries) + length es) * leastLength k = mul-le-mul grown (omega arith) in
     let rest = kept-few limit ks g (some (lastOr 0 (y .times))) (topsAfter tops (y .parts)) (loadBlock g l y) bs (f .1) in

@@ -2,22 +2,20 @@
 -- Assumes nothing.
 use Prim.Native.Nat.{ℕ, suc, _+_, _-_, _≤_, _<_, max}
 use mathlib.Core.Path.{_≡_, refl, ap, _∙_, subst}
-use mathlib.Core.List.{List, [], _∷_}
+use mathlib.Core.List.{List, []}
 use native.Mathlib.Omega.{arith}
 use lib.ListN.{length, drop, drop-of-length-le}
-use lib.Seq.{drop-cons}
 use Rattle.lists.specs.Bytes.{Bytes}
 use Rattle.stream.specs.Entries.{Entry}
-use Rattle.image.specs.Block.{Block, block}
+use Rattle.image.specs.Block.{Block}
 use Rattle.image.specs.Head.{imageLimit}
-use Rattle.image.specs.Image.{Image}
 use Rattle.loaded.specs.Opener.{kindAt, blockAt, partAt, streamIn}
 use Rattle.loaded.specs.Loading.{Load, load, loadBlock, loadFrom, loads}
-use Rattle.walk.specs.Walk.{Opened, imageIn, blockPlace, BlockHere, PartHere}
+use Rattle.walk.specs.Walk.{Opened, imageIn, blockPlace, PartHere}
 use Rattle.walk.proofs.HeadLaws.{means, head-in}
 use Rattle.walk.proofs.BlockLaws.{end-place}
 use Rattle.loader.specs.Least.{streamsLength}
-use Rattle.loader.proofs.BlockLaws.{part-size, Begins, begins}
+use Rattle.loader.proofs.BlockLaws.{blocks-left, part-size, Begins, begins}
 
 -- before block number `number`
 pub record Measuring (b : List ℕ) (g number at bytes top : ℕ) : Type 0 where
@@ -34,30 +32,21 @@ measuring-first b g at e =
     record { l = load [] [] 0; rest = refl; size = omega arith; inside = omega arith; few = omega arith; place = e; class = refl }
 
 module _ (b : List ℕ) (g number at bytes top : ℕ) (y : Bytes b) (o : Opened b) (p : Measuring b g number at bytes top) (h : number < length (imageIn b .blocks)) where
-  abbrev x : Image
-  x = imageIn b
-
-  abbrev next : Block (List Entry)
-  next = blockAt x number
-
-  pub block-there : BlockHere number at b
-  block-there = record { exists = h; place = p .place }
-
-  left : drop number (x .blocks) ≡ next ∷ drop (suc number) (x .blocks)
-  left = drop-cons (x .blocks) number (block [] []) h
-
   -- its stream lies before the next block
-  pub stream-there : (from to t : ℕ) → PartHere from to t number g b → (bytes + (to - from) ≤ blockPlace x (suc number)) × (blockPlace x (suc number) ≤ imageLimit)
+  pub stream-there : (from to t : ℕ) → PartHere from to t number g b → (bytes + (to - from) ≤ blockPlace (imageIn b) (suc number)) × (blockPlace (imageIn b) (suc number) ≤ imageLimit)
   stream-there from to t q =
-      let m : Begins b number at g from to = begins b number at g from to t y o block-there q in
+      let m : Begins b number at g from to = begins b number at g from to t y o (record { exists = h; place = p .place }) q in
       (omega (arith, m .place, p .few), m .end)
 
-  pub measuring-on : (from to t at' top' : ℕ) → PartHere from to t number g b → at' ≡ blockPlace x (suc number) → top' ≡ max top t
+  pub measuring-on : (from to t at' top' : ℕ) → PartHere from to t number g b → at' ≡ blockPlace (imageIn b) (suc number) → top' ≡ max top t
       → Measuring b g (number + 1) at' (bytes + (to - from)) top'
   unfolding loadFrom streamsLength
   measuring-on from to t at' top' q e f =
       let n : number + 1 ≡ suc number = omega arith in
+      let x = imageIn b in
+      let next = blockAt x number in
       let k = kindAt x g in
+      let left = blocks-left x number h in
       let part : length (streamIn k (partAt next g)) ≡ to - from = part-size b number g from to t q in
       let all : bytes + (length (streamIn k (partAt next g)) + streamsLength k g (drop (suc number) (x .blocks))) ≡ streamsLength k g (x .blocks) =
       subst (λ (bs : List (Block (List Entry))). bytes + streamsLength k g bs ≡ streamsLength k g (x .blocks)) left (p .size) in

@@ -30,6 +30,7 @@ pub struct Loading {
     pub last: KeptChange,
 }
 
+// Before the first change: nothing is kept.
 pub fn nothing_kept() -> Loading
     ensures { λ r. ⌜ r ≡ nothingKept ⌝ }
 {

@@ -12,6 +12,7 @@ use lib.Dec.{eqb}
 use lib.ListN.{length, getD, set, replicate}
 use lib.Pow.{pow-pos, pow-add, shr-shr}
 use lib.Seq.{getD-set-same, getD-set-other}
+use Rattle.lists.proofs.BytesLaws.{zeros-at}
 use Rattle.marks.specs.Marks.{markAt}
 
 -- ---- bits of a number
@@ -93,11 +94,6 @@ mark-again m i j h = by-number (eqb j i) refl
     by-number false e = refl
     by-number true e = rw (eqb-true j i e) (eq-eqb (getD m (i / 8) 0 / 2 ^ (i % 8) % 2) 1 (omega arith))
 
-getD-zeros : (n i : ℕ) → getD (replicate {A = ℕ} n 0) i 0 ≡ 0
-getD-zeros zero i = refl
-getD-zeros (suc n) zero = refl
-getD-zeros (suc n) (suc i) = getD-zeros n i
-
 pub no-marks : (n j : ℕ) → markAt (replicate n 0) j ≡ false
 unfolding markAt
-no-marks n j = rw (getD-zeros n (j / 8), zero-div (2 ^ (j % 8))) refl
+no-marks n j = rw (zeros-at n (j / 8), zero-div (2 ^ (j % 8))) refl

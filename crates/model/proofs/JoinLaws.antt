@@ -11,14 +11,11 @@ use lib.Seq.{drop-append-le}
 use lib.Dec.{eqb}
 use Rattle.lists.specs.Choice.{pick}
 use Rattle.lists.specs.Last.{lastOr}
+use Rattle.lists.proofs.ChoiceLaws.{pick-one}
+use Rattle.lists.proofs.LastLaws.{last-append}
 use Rattle.history.specs.History.{Change}
 use Rattle.loaded.specs.Loading.{overlap, joinTimes}
 use Rattle.model.specs.Model.{Chunk, shift, shifts, join, joined}
-
-pub last-append : (d : ℕ) (a b : List ℕ) → lastOr d (a ++ b) ≡ lastOr (lastOr d a) b
-unfolding lastOr
-last-append d [] b = refl
-last-append d (x ∷ a) b = last-append x a b
 
 pub shifts-append : (n : ℕ) (a b : List Change) → shifts n (a ++ b) ≡ shifts n a ++ shifts n b
 unfolding shifts
@@ -39,11 +36,7 @@ overlap-more (x ∷ l) (t ∷ ts) us h = refl
 overlap-le : (l ts : List ℕ) → overlap l ts ≤ 1
 overlap-le [] ts = omega arith
 overlap-le (x ∷ l) [] = omega arith
-overlap-le (x ∷ l) (t ∷ ts) = go (eqb t (lastOr x l))
-  where
-    go : (b : Bool) → pick b 1 0 ≤ 1
-    go true = omega arith
-    go false = omega arith
+overlap-le (x ∷ l) (t ∷ ts) = pick-one (eqb t (lastOr x l))
 
 overlap-left : (l ts : List ℕ) → overlap l ts ≤ length l
 overlap-left [] ts = omega arith

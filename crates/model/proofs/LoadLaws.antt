@@ -22,7 +22,7 @@ use Rattle.model.specs.Model.{Chunk, noChunk, shifts, join, joined, tab,
 
 -- ---- a signal's list, and its class
 
-pick-append : (t : Bool) (c : Entry) (x y : List Entry) → pick t (c ∷ x ++ y) (x ++ y) ≡ pick t (c ∷ x) x ++ y
+pub pick-append : {A : Type 0} (t : Bool) (c : A) (x y : List A) → pick t (c ∷ x ++ y) (x ++ y) ≡ pick t (c ∷ x) x ++ y
 pick-append true c x y = refl
 pick-append false c x y = refl
 

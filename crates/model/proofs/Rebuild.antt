@@ -8,11 +8,11 @@ use mathlib.Core.Option.{Option, some, none}
 use native.Mathlib.Nat.{add-zero, zero-add, add-suc, suc-add}
 use native.Mathlib.Omega.{arith}
 use borrow.Author.Tests.{eq-eqb, ne-eqb, eqb-true, eqb-false, lt-ltb}
-use native.Mathlib.Decide.{decLt}
-use lib.ListN.{length, getD, drop, length-append, length-drop, List·getD-eq-default}
+use lib.ListN.{length, getD, drop, length-append, length-drop}
 use lib.Dec.{eqb}
 use Rattle.lists.specs.Choice.{pick}
 use Rattle.lists.specs.Last.{lastOr}
+use Rattle.lists.proofs.LastLaws.{last-append}
 use Rattle.signal.specs.declared.kind.SignalEncoding.{SignalEncoding}
 use Rattle.signal.specs.declared.kind.SignalEncoding.the-variants.{Absent}
 use Rattle.signal.specs.Kind.{topLimit}
@@ -26,8 +26,7 @@ use Rattle.codec.proofs.ImageFits.{filled-small}
 use Rattle.recording.specs.Calls.{Call, time, change, finish, above, wayOf}
 use Rattle.history.specs.History.{Change, listOf, topOf}
 use Rattle.model.specs.Model.{Chunk, chunk, Model, model, noModel, cut, modelTime, modelChange, modelStep, tab, partWith, storedOf, imageOf}
-use Rattle.model.proofs.JoinLaws.{last-append}
-use Rattle.model.proofs.LoadLaws.{top-append}
+use Rattle.model.proofs.LoadLaws.{pick-append, top-append}
 use Rattle.model.proofs.ValidLaws.{seenOf, seen-snoc, image-snoc}
 
 -- ---- the calls
@@ -98,6 +97,30 @@ front-behind i (e ∷ es) = go (eqb (e .index) i) (front-behind i es)
     go true q = ap (λ (l : List Entry). e ∷ l) q
     go false q = refl
 
+-- what holds of each entry
+abbrev pub All : (Entry → Type 0) → List Entry → Type 0
+All P [] = Unit {0}
+All P (e ∷ es) = P e × All P es
+
+module _ (P : Entry → Type 0) where
+  pub all-front : (i : ℕ) (es : List Entry) → All P es → All P (front i es)
+  unfolding front
+  all-front i [] h = tt
+  all-front i (e ∷ es) h = go (eqb (e .index) i) (all-front i es (h .1))
+    where
+      go : (b : Bool) → All P (front i es) → All P (pick b (e ∷ front i es) [])
+      go true q = (h .0, q)
+      go false q = tt
+
+  pub all-behind : (i : ℕ) (es : List Entry) → All P es → All P (behind i es)
+  unfolding behind
+  all-behind i [] h = tt
+  all-behind i (e ∷ es) h = go (eqb (e .index) i) (all-behind i es (h .1))
+    where
+      go : (b : Bool) → All P (behind i es) → All P (pick b (behind i es) (e ∷ es))
+      go true q = q
+      go false q = h
+
 module _ (k : SignalEncoding) (n top : ℕ) where
   behind-fits : (i : ℕ) (es : List Entry) → EntriesFit k n i top es → EntriesFit k n (suc i) top (behind i es)
   unfolding behind
@@ -146,10 +169,6 @@ as-top g t e (x ∷ es) = rw (eq-eqb g g refl) (omega (arith, as-top g t x es))
 unfoldable pub ofs : (g : ℕ) → List Change → List Change
 ofs g [] = []
 ofs g (c ∷ cs) = pick (eqb (c .signal) g) (c ∷ ofs g cs) (ofs g cs)
-
-pick-append : (t : Bool) (c : Change) (x y : List Change) → pick t (c ∷ x ++ y) (x ++ y) ≡ pick t (c ∷ x) x ++ y
-pick-append true c x y = refl
-pick-append false c x y = refl
 
 ofs-append : (g : ℕ) (a b : List Change) → ofs g (a ++ b) ≡ ofs g a ++ ofs g b
 unfolding ofs
@@ -340,12 +359,13 @@ module _ (limit : ℕ) (ks : List SignalEncoding) where
 
   -- what can be said: entries at an index that fit, with a class that the kind can have
   abbrev AllAt : ℕ → List Entry → Type 0
-  AllAt i [] = Unit {0}
-  AllAt i (e ∷ es) = (e .index ≡ i) × AllAt i es
+  AllAt i = All (λ (e : Entry). e .index ≡ i)
+
+  abbrev CanSay : (g t : ℕ) → Entry → Type 0
+  CanSay g t e = decode (getD ks g Absent) (sayOf (getD ks g Absent) t (e .content)) ≡ accept (e .content) t
 
   abbrev Said : (g t : ℕ) → List Entry → Type 0
-  Said g t [] = Unit {0}
-  Said g t (e ∷ es) = (decode (getD ks g Absent) (sayOf (getD ks g Absent) t (e .content)) ≡ accept (e .content) t) × Said g t es
+  Said g t = All (CanSay g t)
 
   said-fits : (g t n i : ℕ) (es : List Entry) → t ≤ topLimit (getD ks g Absent) → EntriesFit (getD ks g Absent) n i t es → Said g t es
   said-fits g t n i [] h f = tt
@@ -360,24 +380,6 @@ module _ (limit : ℕ) (ks : List SignalEncoding) where
       go : (b : Bool) → eqb (e .index) i ≡ b → AllAt i (front i es) → AllAt i (pick b (e ∷ front i es) [])
       go true q h = (eqb-true (e .index) i q, h)
       go false q h = tt
-
-  said-front : (i g t : ℕ) (es : List Entry) → Said g t es → Said g t (front i es)
-  unfolding front
-  said-front i g t [] h = tt
-  said-front i g t (e ∷ es) h = go (eqb (e .index) i) (said-front i g t es (h .1))
-    where
-      go : (b : Bool) → Said g t (front i es) → Said g t (pick b (e ∷ front i es) [])
-      go true q = (h .0, q)
-      go false q = tt
-
-  said-behind : (i g t : ℕ) (es : List Entry) → Said g t es → Said g t (behind i es)
-  unfolding behind
-  said-behind i g t [] h = tt
-  said-behind i g t (e ∷ es) h = go (eqb (e .index) i) (said-behind i g t es (h .1))
-    where
-      go : (b : Bool) → Said g t (behind i es) → Said g t (pick b (behind i es) (e ∷ es))
-      go true q = q
-      go false q = h
 
   calls-take : (es : List Entry) (g t i : ℕ) (bs : List Chunk) (ts : List ℕ) (cs : List Change) → length ts ≡ suc i → AllAt i es → Said g t es
       → Takes (live bs ts cs) (callsOf ks g t es) (live bs ts (cs ++ asChanges g t es))
@@ -404,7 +406,7 @@ module _ (limit : ℕ) (ks : List SignalEncoding) where
   round-take (p ∷ ps) i g bs ts cs l s =
       let s0 : Said g (p .top) (p .stream) = subst (λ (x : ℕ). Said x (p .top) (p .stream)) (add-zero g) (s 0) in
       let a : List Change = asChanges g (p .top) (front i (p .stream)) in
-      let t = calls-take (front i (p .stream)) g (p .top) i bs ts cs l (front-at i (p .stream)) (said-front i g (p .top) (p .stream) s0) in
+      let t = calls-take (front i (p .stream)) g (p .top) i bs ts cs l (front-at i (p .stream)) (all-front (CanSay g (p .top)) i (p .stream) s0) in
       let more : SaidAll (suc g) ps = λ j. subst (λ (x : ℕ). Said x (getD ps j noPart .top) (getD ps j noPart .stream)) (add-suc g j ∙ sym (suc-add g j)) (s (suc j)) in
       let ih = round-take ps i (suc g) bs ts (cs ++ a) l more in
       takes-append (callsOf ks g (p .top) (front i (p .stream))) (roundCalls ks i (suc g) ps) (live bs ts cs) (live bs ts (cs ++ a)) (live bs ts (cs ++ (a ++ roundMarks i (suc g) ps))) t
@@ -437,7 +439,7 @@ module _ (limit : ℕ) (ks : List SignalEncoding) where
       let a : List Change = roundMarks i 0 ps in
       let z : lastOr 0 (ts ++ u ∷ []) ≡ u = last-append 0 ts (u ∷ []) ∙ last-one (lastOr 0 ts) u in
       let la : length (ts ++ u ∷ []) ≡ suc (suc i) = rw length-append (omega arith) in
-      let more : SaidAll 0 (restOf i ps) = λ j. rw (rest-at i j ps) (said-behind i (0 + j) (getD ps j noPart .top) (getD ps j noPart .stream) (s j)) in
+      let more : SaidAll 0 (restOf i ps) = λ j. rw (rest-at i j ps) (all-behind (CanSay (0 + j) (getD ps j noPart .top)) i (getD ps j noPart .stream) (s j)) in
       let ih = block-take us (ts ++ u ∷ []) (suc i) (restOf i ps) bs (cs ++ a) la (omega arith) (subst (λ (x : ℕ). RisingFrom x us) (sym z) (r .1)) more in
       let e1 = append-assoc ts (u ∷ []) us in
       let e2 = append-assoc cs a (blockMarks (suc i) us (restOf i ps)) in
@@ -464,18 +466,7 @@ module _ (limit : ℕ) (ks : List SignalEncoding) where
 
     each-said : (g : ℕ) → EntriesFit (getD ks g Absent) Count (firstIndex end) (bare (getD (s .parts) g none) .top) (bare (getD (s .parts) g none) .stream)
         × (bare (getD (s .parts) g none) .top ≤ topLimit (getD ks g Absent))
-    each-said g = go (decLt g (length ks))
-      where
-        go : Dec (g < length ks) → EntriesFit (getD ks g Absent) Count (firstIndex end) (bare (getD (s .parts) g none) .top) (bare (getD (s .parts) g none) .stream)
-            × (bare (getD (s .parts) g none) .top ≤ topLimit (getD ks g Absent))
-        go (yes h) = part-said (getD ks g Absent) Count (firstIndex end) (getD tops g 0) (getD (s .parts) g none) (parts-each Count (firstIndex end) ks tops (s .parts) (f .parts) g h)
-        go (no h) =
-            let c = parts-count Count (firstIndex end) ks tops (s .parts) (f .parts) in
-            let z : getD (s .parts) g none ≡ none = List·getD-eq-default (s .parts) none (past c h) in
-            rw z (tt, omega arith)
-          where
-            past : length (s .parts) ≡ length ks → (g < length ks → ⊥) → length (s .parts) ≤ g
-            past c h = omega arith
+    each-said g = part-said (getD ks g Absent) Count (firstIndex end) (getD tops g 0) (getD (s .parts) g none) (parts-each Count (firstIndex end) ks tops (s .parts) (f .parts) g)
 
     said-all : SaidAll 0 (bares (s .parts))
     said-all j =
@@ -498,7 +489,7 @@ module _ (limit : ℕ) (ks : List SignalEncoding) where
       option-fits : (g : ℕ) → g < length ks → OptionFits (getD ks g Absent) Count (firstIndex end) (topOf g seen) (getD (s .parts) g none)
       option-fits g h =
           subst (λ (t : ℕ). OptionFits (getD ks g Absent) Count (firstIndex end) t (getD (s .parts) g none)) (e g h)
-          (parts-each Count (firstIndex end) ks tops (s .parts) (f .parts) g h)
+          (parts-each Count (firstIndex end) ks tops (s .parts) (f .parts) g)
 
       stored-back : storedOf (length ks) (seen ++ cs) (chunk (s .times) cs) ≡ s
       stored-back =

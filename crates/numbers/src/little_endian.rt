@@ -40,6 +40,7 @@ fn get_le(s: &[u8], at: usize, w: usize) -> u64
     v
 }
 
+// Writes a number from a place on, and answers the place after it.
 pub fn put_u32(buf: &mut [u8], at: usize, v: u32) -> usize
     requires { ⌜ at + 4 ≤ length (now buf) ⌝ }
     ensures { λ r. ⌜ (r ≡ at + 4) × (now (buf .exit) ≡ sets (now (buf .entry)) at (le 4 v)) ⌝ }
@@ -47,6 +48,7 @@ pub fn put_u32(buf: &mut [u8], at: usize, v: u32) -> usize
     put_le(buf, at, 4, v as u64)
 }
 
+// The number from a place on.
 pub fn get_u32(s: &[u8], at: usize) -> u32
     requires { ⌜ at + 4 ≤ length (now s) ⌝ }
     ensures { λ r. ⌜ r ≡ unle (take 4 (drop at (now (s .entry)))) ⌝ }
@@ -54,6 +56,7 @@ pub fn get_u32(s: &[u8], at: usize) -> u32
     get_le(s, at, 4) as u32
 }
 
+// The same in 8 bytes.
 pub fn put_u64(buf: &mut [u8], at: usize, v: u64) -> usize
     requires { ⌜ at + 8 ≤ length (now buf) ⌝ }
     ensures { λ r. ⌜ (r ≡ at + 8) × (now (buf .exit) ≡ sets (now (buf .entry)) at (le 8 v)) ⌝ }
@@ -61,6 +64,7 @@ pub fn put_u64(buf: &mut [u8], at: usize, v: u64) -> usize
     put_le(buf, at, 8, v)
 }
 
+// The same in 8 bytes.
 pub fn get_u64(s: &[u8], at: usize) -> u64
     requires { ⌜ at + 8 ≤ length (now s) ⌝ }
     ensures { λ r. ⌜ r ≡ unle (take 8 (drop at (now (s .entry)))) ⌝ }

@@ -2,7 +2,7 @@
 -- Assumes nothing.
 use Prim.Native.Nat.{ℕ, _+_, _*_, _≤_, _<_}
 use mathlib.Core.Path.{_≡_, refl, sym, ap, ap₂, _∙_}
-use mathlib.Core.Bool.{Bool, true, false, _&&_}
+use mathlib.Core.Bool.{Bool, true, false, _&&_, and-false, and-true}
 use mathlib.Core.List.{List, [], _∷_, _++_}
 use mathlib.Core.Option.{some, none}
 use native.Mathlib.Omega.{arith}
@@ -109,14 +109,6 @@ eqb-same a b c d f g = by (ℕ-discrete a b)
     by (yes e) = eq-eqb a b e ∙ sym (eq-eqb c d (f e))
     by (no n) = ne-eqb a b n ∙ sym (ne-eqb c d (λ e. n (g e)))
 
-and-false : (t : Bool) → false ≡ t && false
-and-false true = refl
-and-false false = refl
-
-and-true : (t : Bool) → t ≡ t && true
-and-true true = refl
-and-true false = refl
-
 module _ (limit : ℕ) (ks : List SignalEncoding) (p total n : ℕ) (s : List ℕ) (size : p + length s ≡ n) where
   whole : (t : Bool) (x : Blocks) → isSome (ended (andThen (pick t (got x []) bad) (λ bs q. gotIf (some (image limit ks bs)) q))) ≡ t
   whole true x = refl
@@ -128,10 +120,10 @@ module _ (limit : ℕ) (ks : List SignalEncoding) (p total n : ℕ) (s : List �
 
   filled : (g : Got Blocks) → isSome (ended (andThen (andThen g (λ x q. pick (eqb (p + length s) (total + length q)) (got x q) bad)) (λ bs q. gotIf (some (image limit ks bs)) q)))
       ≡ eqb total n && atEnd g
-  filled bad = and-false (eqb total n)
+  filled bad = sym (and-false (eqb total n))
   filled (got x []) =
-      whole (eqb (p + length s) (total + 0)) x ∙ eqb-same (p + length s) (total + 0) total n (λ e. omega arith) (λ e. omega arith) ∙ and-true (eqb total n)
-  filled (got x (c ∷ r)) = part (eqb (p + length s) (total + length (c ∷ r))) x c r ∙ and-false (eqb total n)
+      whole (eqb (p + length s) (total + 0)) x ∙ eqb-same (p + length s) (total + 0) total n (λ e. omega arith) (λ e. omega arith) ∙ sym (and-true (eqb total n))
+  filled (got x (c ∷ r)) = part (eqb (p + length s) (total + length (c ∷ r))) x c r ∙ sym (and-false (eqb total n))
 
 -- ---- all tests
 

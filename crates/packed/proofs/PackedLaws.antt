@@ -151,6 +151,10 @@ pub length-packed : (c : ℕ) (s : List ℕ) → length (packed c s) ≡ packedL
 unfolding packed
 length-packed c s = length-digits 8 (packedLength (length s) c) (numberOf (bitsOf c) s)
 
+-- of a vector of width w
+pub packed-length : (c w : ℕ) (s : List ℕ) → length s ≡ w → length (packed c s) ≡ packedLength w c
+packed-length c w s e = length-packed c s ∙ ap (λ (v : ℕ). packedLength v c) e
+
 pub packed-bytes : (c : ℕ) (s : List ℕ) → Bytes (packed c s)
 unfolding packed
 packed-bytes c s = digits-below 8 (packedLength (length s) c) (numberOf (bitsOf c) s)

@@ -17,7 +17,8 @@ ghost use Rattle.lists.specs.Choice.{pick};
 ghost use Rattle.value.specs.Class.{classNumber, bitsOf, largestOf, minStates};
 ghost use Rattle.packed.specs.Packed.{numberOf, digitAt, digits, unpacked, packedLength, topClear};
 
-fn wide(x: u8) -> u32
+// A byte as a number with room above it.
+pub fn wide(x: u8) -> u32
     ensures { λ r. ⌜ r ≡ x ⌝ }
 {
     x as u32

@@ -9,6 +9,7 @@ use native.Mathlib.Omega.{arith}
 use borrow.Author.Tests.{le-leb, lt-leb}
 use lib.Dec.{leb}
 use lib.ListN.{length, take, drop, getD, length-drop}
+use lib.Seq.{take-length}
 use Rattle.lists.specs.Choice.{pick, bind, isSome}
 use Rattle.lists.specs.Got.{Got, bad, got}
 use Rattle.signal.specs.declared.kind.SignalEncoding.{SignalEncoding}
@@ -71,10 +72,6 @@ part-top k before n i (x ∷ r) p e = by (leb before x && leb x (topLimit k)) (w
 
 -- ---- the code's tests
 
-take-all : (r : List ℕ) → take (length r) r ≡ r
-take-all [] = refl
-take-all (x ∷ r) = ap (λ (l : List ℕ). x ∷ l) (take-all r)
-
 some-part : (o : Option (List Entry)) (x : ℕ) → isSome (bind o (λ l. some (part x l))) ≡ isSome o
 some-part none x = refl
 some-part (some l) x = refl
@@ -105,7 +102,7 @@ module _ (k : SignalEncoding) (before n i : ℕ) where
   pub part-all : (s : List ℕ) (x y : ℕ) (t : Bool) (j : ℕ) → 0 < length s → x ≡ getD s 0 0 → y ≡ topLimit k → before ≤ x → x ≤ y
       → t ≡ isStream k n i x (take j (drop 1 s)) → j ≡ length s - 1 → t ≡ isSome (partIn k before n i s)
   part-all s x y t j h e f a b q d =
-      q ∙ ap (isStream k n i x) (ap (λ (j : ℕ). take j (drop 1 s)) (d ∙ sym (length-drop 1 s)) ∙ take-all (drop 1 s))
+      q ∙ ap (isStream k n i x) (ap (λ (j : ℕ). take j (drop 1 s)) (d ∙ sym (length-drop 1 s)) ∙ take-length (drop 1 s))
       ∙ sym (by-first s x h e ∙ ap₂ (λ (t u : Bool). t && (u && isStream k n i x (drop 1 s))) (le-leb before x a) (ap (leb x) (sym f) ∙ le-leb x y b))
 
 -- the largest top class by the kind

@@ -2,7 +2,7 @@
 -- Assumes nothing.
 use Prim.Native.Nat.{ℕ, _+_, _-_, _<_}
 use mathlib.Core.Path.{_≡_, refl, sym, _∙_, subst}
-use mathlib.Core.Bool.{true, false}
+use mathlib.Core.Bool.{true}
 use mathlib.Core.List.{List, map}
 use native.Mathlib.Omega.{arith}
 use native.Mathlib.Decide.{ℕ-discrete}
@@ -10,6 +10,7 @@ use borrow.Author.Tests.{eq-eqb, ne-eqb}
 use lib.ListN.{length, take, set, replicate, length-replicate}
 use lib.Dec.{eqb}
 use Rattle.lists.specs.Choice.{pick}
+use Rattle.lists.proofs.SameLaws.{false-true}
 use Rattle.value.specs.declared.states.States.the-variants.{Two}
 use Rattle.signal.specs.declared.kind.SignalEncoding.the-variants.{Absent}
 use Rattle.recording.specs.declared.Answer.the-variants.{Taken, Same, Back, Refused}
@@ -31,9 +32,6 @@ use Rattle.plan.specs.Plan.{outcome, still, cutting, taking, planRefused
 use Rattle.plan.specs.Carry.{openedBy, turnedBy, closedBy, timesBy, carried, Completes, Carries}
 use Rattle.plan.proofs.TimeLaws.{time-refused, time-passed, above-taken, above-cut, sized-refused, sized-cut}
 use Rattle.plan.proofs.FinishLaws as ends
-
-never : {A : Type 0} → false ≡ true → A
-never q = let z : _≡_ {A = ℕ} 0 1 = cc in absurd (omega arith)
 
 module _ (s : Encoder) (rs : List SignalRecord) (t w i : List ℕ) where
   abbrev m : Memory
@@ -57,8 +55,8 @@ module _ (s : Encoder) (rs : List SignalRecord) (t w i : List ℕ) where
   unfolding firstBy cutTurns
   still-does o =
       record {
-        opens = λ q. never q;
-        carries = record { loop = no-turns; end = record { closes = λ q. never q; counted = λ q. never q; table = λ q. never q } };
+        opens = λ q. false-true q;
+        carries = record { loop = no-turns; end = record { closes = λ q. false-true q; counted = λ q. false-true q; table = λ q. false-true q } };
         same = refl;
       }
 
@@ -67,8 +65,8 @@ module _ (s : Encoder) (rs : List SignalRecord) (t w i : List ℕ) where
   unfolding firstBy cutTurns
   taking-does o x h l =
       record {
-        opens = λ q. never q;
-        carries = record { loop = no-turns; end = record { closes = λ q. never q; counted = λ q. h; table = λ q. l } };
+        opens = λ q. false-true q;
+        carries = record { loop = no-turns; end = record { closes = λ q. false-true q; counted = λ q. h; table = λ q. l } };
         same = refl;
       }
 
@@ -88,7 +86,7 @@ module _ (s : Encoder) (rs : List SignalRecord) (t w i : List ℕ) where
           opens = λ q. cut-opens s rs t w i h size c any;
           carries = record {
             loop = cut-turns s rs t w i h size c any;
-            end = record { closes = λ q. cut-closes s rs t w i h size c any; counted = λ q. never q; table = λ q. never q };
+            end = record { closes = λ q. cut-closes s rs t w i h size c any; counted = λ q. false-true q; table = λ q. false-true q };
           };
           same = rw (first-all step.rewound rs, cut-made s rs t w i h size c any) refl;
         }

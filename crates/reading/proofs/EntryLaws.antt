@@ -3,18 +3,18 @@
 use Prim.Native.Nat.{ℕ, zero, suc, _+_, _-_, _≤_, _<_}
 use mathlib.Core.Path.{_≡_, refl, sym, ap, ap₂, _∙_}
 use mathlib.Core.Bool.{Bool, true, false, _&&_}
-use mathlib.Core.List.{List, [], _∷_}
+use mathlib.Core.List.{List}
 use mathlib.Core.Option.{some}
 use native.Mathlib.Omega.{arith}
 use borrow.Author.Tests.{le-leb, lt-leb, lt-ltb, le-ltb}
 use lib.Dec.{leb, ltb}
-use lib.ListN.{length, drop, getD}
+use lib.ListN.{length, drop}
 use Rattle.lists.specs.Bytes.{Bytes}
 use Rattle.lists.specs.Choice.{pick}
 use Rattle.lists.specs.Got.{Got, bad, got}
 use Rattle.lists.proofs.BytesLaws.{drop-bytes}
-use Rattle.value.specs.Class.{classOf, classOfAll}
-use Rattle.value.proofs.ClassLaws.{number-states, class-all-small}
+use Rattle.value.specs.Class.{classOfAll}
+use Rattle.value.proofs.ClassLaws.{number-states, class-all-small, one-class}
 use Rattle.signal.specs.declared.kind.SignalEncoding.{SignalEncoding}
 use Rattle.signal.specs.declared.kind.SignalEncoding.the-variants.{BitVector, Real, Absent}
 use Rattle.signal.specs.declared.decode.ChangeValue.{ChangeValue}
@@ -35,18 +35,12 @@ use Rattle.reading.specs.declared.changes.NextChange.the-variants.{At, W
 use Rattle.reading.proofs.DecidedLaws.{yes-le, yes-lt, yes-both, yes-map}
 
 -- the class of a value that was read is that of its content
-class-one : (s : List ℕ) → length s ≡ 1 → classOf (getD s 0 0) ≡ classOfAll s
-unfolding classOfAll
-class-one [] e = absurd (omega arith)
-class-one (x ∷ []) e = omega arith
-class-one (x ∷ y ∷ s) e = absurd (omega arith)
-
 pub class-value : (k : SignalEncoding) (c : Content) → ContentFits k c → valueClass (valueOf k c) ≡ classOfAll (symbolsOf c)
 class-value (BitVector zero) happened f = unfold classOfAll in refl
 class-value (BitVector zero) (symbols s) f = absurd f
 class-value (BitVector zero) (bits b) f = absurd f
 class-value (BitVector (suc w)) happened f = absurd f
-class-value (BitVector (suc zero)) (symbols s) f = class-one s (f .0)
+class-value (BitVector (suc zero)) (symbols s) f = sym (one-class s (f .0))
 class-value (BitVector (suc (suc w))) (symbols s) f = number-states (classOfAll s) (class-all-small s)
 class-value (BitVector (suc w)) (bits b) f = absurd f
 class-value Real happened f = absurd f

@@ -25,7 +25,7 @@ use Rattle.recording.specs.Work.{itemsOf, gather}
 use Rattle.recording.specs.Memory.{Memory, memory, recordOf}
 use Rattle.recording.specs.Refusals.{unknownKind, startTests, stateTests}
 use Rattle.recording.specs.Step.{encoder, withState, partsFrom, cutOf, timeOf, changeOf, finishOf, startOf, step, run}
-use Rattle.recording.specs.Runs.{lent, ran, imageLeft}
+use Rattle.recording.specs.Runs.{lent, ran, imageLeft, skips}
 
 -- an event at the second and at the third time: d is 1 and 1
 pub index-less-previous : imageLeft 4 (BitVector 0 ∷ []) (time 1 ∷ time 2 ∷ change 0 (vcd []) ∷ time 3 ∷ change 0 (vcd []) ∷ finish ∷ [])
@@ -39,10 +39,6 @@ pub index-after-cut : imageLeft 2 (BitVector 0 ∷ []) (time 1 ∷ time 2 ∷ ch
     ++ (les 4 (34 ∷ 2 ∷ 1 ∷ 1 ∷ []) ++ (les 8 (1 ∷ 2 ∷ []) ++ (0x00 ∷ 0x01 ∷ les 4 (34 ∷ 2 ∷ 1 ∷ 1 ∷ []) ++ (les 8 (2 ∷ 3 ∷ []) ++ (0x00 ∷ 0x01 ∷ [])))))
 unfolding groups lebOf le unle classOfAll lastOr decode changeBytes les dataOf offsetsFrom blockBytes headBytes wayOf itemsOf gather unknownKind startTests stateTests partsFrom cutOf timeOf changeOf finishOf startOf step run lent ran imageLeft
 index-after-cut = refl
-
--- times 10, 5, 10: the skip stands; 11 ends it. A change after each: 1, 0, 0, 1
-abbrev skips : List Call
-skips = time 10 ∷ change 0 (vcd (49 ∷ [])) ∷ time 5 ∷ change 0 (vcd (48 ∷ [])) ∷ time 10 ∷ change 0 (vcd (48 ∷ [])) ∷ time 11 ∷ change 0 (vcd (49 ∷ [])) ∷ []
 
 pub skip-stands : (ran 4 (BitVector 1 ∷ []) skips .replies
     ≡ say taken ∷ say recorded ∷ say back ∷ say skipped ∷ say calls.same ∷ say skipped ∷ say taken ∷ say recorded ∷ [])

@@ -2,25 +2,25 @@
 -- Assumes nothing.
 use Prim.Native.Nat.{ℕ, suc, _+_, _*_, _≤_, _<_}
 use mathlib.Core.Path.{_≡_, refl, sym, ap}
-use mathlib.Core.Bool.{Bool, true, false, _||_}
+use mathlib.Core.Bool.{Bool, true, false, or-true}
 use mathlib.Core.List.{List, [], _∷_, map}
 use native.Mathlib.Omega.{arith}
 use borrow.Author.Tests.{lt-ltb, le-ltb, eq-eqb, ne-eqb}
 use lib.ListN.{length, replicate, length-replicate}
 use lib.Seq.{sets}
 use lib.Dec.{ltb}
-use Rattle.lists.specs.Choice.{pick}
+use Rattle.lists.proofs.ChoiceLaws.{pick-same}
 use Rattle.numbers.specs.LittleEndian.{le}
-use Rattle.value.specs.declared.states.States.the-variants.{Two, Nine}
+use Rattle.value.specs.declared.states.States.the-variants.{Two}
 use Rattle.signal.specs.declared.kind.SignalEncoding.{SignalEncoding}
 use Rattle.signal.specs.declared.kind.SignalEncoding.the-variants.{BitVector, Real, Absent}
 use Rattle.image.specs.Block.{les}
 use Rattle.image.specs.Head.{headSize, headBytes, imageLimit}
-use Rattle.recording.specs.declared.SignalRecord.{SignalRecord}
 use Rattle.recording.specs.Calls.{started}
 use Rattle.recording.specs.Memory.{Memory, memory, After, after, recordOf, refused}
 use Rattle.recording.specs.Refusals.{outside, unknownKind, startTests}
 use Rattle.recording.specs.Step.{encoder, fresh, kindIn, startOf}
+use Rattle.recording.specs.Runs.{stale}
 
 -- what is lawful in a start, by the numbers of its tests
 pub record Startable (limit signals records : ℕ) (unknown : Bool) (times image : ℕ) : Type 0 where
@@ -50,14 +50,6 @@ start-fits l s m f =
 
 -- ---- what is not lawful is 1, whatever else is not
 
-pick-same : {A : Type 0} (x : A) (b : Bool) → pick b x x ≡ x
-pick-same x true = refl
-pick-same x false = refl
-
-or-right : (a : Bool) → a || true ≡ true
-or-right true = refl
-or-right false = refl
-
 module _ (limit signals : ℕ) (m : Memory) where
   abbrev Back : Type 0
   Back = startOf limit signals m ≡ refused m 1
@@ -68,11 +60,11 @@ module _ (limit signals : ℕ) (m : Memory) where
 
   pub limit-high : 65535 < limit → Back
   unfolding startOf startTests
-  limit-high h = rw (lt-ltb 65535 limit h, or-right (ltb limit 2)) refl
+  limit-high h = rw (lt-ltb 65535 limit h, or-true (ltb limit 2)) refl
 
   pub table-short : length (m .times) < limit → Back
   unfolding startOf startTests
-  table-short h = rw (lt-ltb (length (m .times)) limit h) (pick-same _ (outside limit))
+  table-short h = rw (lt-ltb (length (m .times)) limit h) (pick-same (outside limit) _)
 
   pub signals-many : 65536 < signals → Back
   unfolding startOf startTests
@@ -80,7 +72,7 @@ module _ (limit signals : ℕ) (m : Memory) where
 
   pub signals-other : (signals ≡ length (m .records) → ⊥) → Back
   unfolding startOf startTests
-  signals-other h = rw (ne-eqb signals (length (m .records)) h, or-right (ltb 65536 signals)) (simp pick-same)
+  signals-other h = rw (ne-eqb signals (length (m .records)) h, or-true (ltb 65536 signals)) (simp pick-same)
 
   pub kind-unknown : unknownKind (m .records) ≡ true → Back
   unfolding startOf startTests
@@ -92,7 +84,7 @@ module _ (limit signals : ℕ) (m : Memory) where
 
   pub image-long : imageLimit < length (m .image) → Back
   unfolding startOf startTests
-  image-long h = rw (lt-ltb imageLimit (length (m .image)) h, or-right (ltb (length (m .image)) (headSize signals))) (simp pick-same)
+  image-long h = rw (lt-ltb imageLimit (length (m .image)) h, or-true (ltb (length (m .image)) (headSize signals))) (simp pick-same)
 
 -- ---- the edges, for every memory: the last lawful number and the first that is not
 
@@ -152,9 +144,6 @@ pub image-1073741825 : (limit signals : ℕ) (m : Memory) → length (m .image) 
 image-1073741825 l s m e = image-long l s m (omega arith)
 
 -- ---- cases, on lent memory that holds nonsense
-
-abbrev stale : SignalEncoding → SignalRecord
-stale k = recordOf k 7 Nine
 
 abbrev pub lent : List SignalEncoding → (times image : ℕ) → Memory
 lent ks t i = memory (encoder true 9 9 9 9 9 9 true 9) (map stale ks) (replicate t 99) (99 ∷ []) (replicate i 99)

@@ -2,12 +2,13 @@
 -- Assumes nothing.
 use Prim.Native.Nat.{ℕ}
 use mathlib.Core.Bool.{true}
-use mathlib.Core.List.{List, map}
+use mathlib.Core.List.{List, [], _∷_, map}
 use lib.ListN.{length, take, replicate}
 use Rattle.value.specs.declared.states.States.the-variants.{Nine}
 use Rattle.signal.specs.declared.kind.SignalEncoding.{SignalEncoding}
+use Rattle.signal.specs.Content.{vcd}
 use Rattle.recording.specs.declared.SignalRecord.{SignalRecord}
-use Rattle.recording.specs.Calls.{Call}
+use Rattle.recording.specs.Calls.{Call, time, change}
 use Rattle.recording.specs.Memory.{Memory, memory, recordOf}
 use Rattle.recording.specs.Step.{encoder, startOf, run, Ran}
 
@@ -25,3 +26,7 @@ ran limit ks cs = run (startOf limit (length ks) (lent ks limit 64 128) .memory)
 -- the image left: its used bytes
 unfoldable pub imageLeft : (limit : ℕ) → List SignalEncoding → List Call → List ℕ
 imageLeft limit ks cs = let r = ran limit ks cs in take (r .last .state .image) (r .last .image)
+
+-- times 10, 5, 10: the skip stands; 11 ends it. A change after each: 1, 0, 0, 1
+abbrev pub skips : List Call
+skips = time 10 ∷ change 0 (vcd (49 ∷ [])) ∷ time 5 ∷ change 0 (vcd (48 ∷ [])) ∷ time 10 ∷ change 0 (vcd (48 ∷ [])) ∷ time 11 ∷ change 0 (vcd (49 ∷ [])) ∷ []

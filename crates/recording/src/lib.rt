@@ -35,6 +35,7 @@ pub struct Encoder {
     pub skipped: u32,
 }
 
+// What a call of a recording answers.
 pub enum Answer {
     Started,
     Taken,

@@ -3,7 +3,8 @@
 use mathlib.Core.Path.{_≡_, refl, sym, _∙_, ap, subst}
 use Prim.Native.Nat.{ℕ, zero, suc, _+_, _<_}
 use native.Mathlib.Nat.{le-of-suc-le-suc, not-suc-le-zero}
-use mathlib.Core.Bool.{Bool, true, false, _||_, not}
+use native.Mathlib.Numerals.{add-one}
+use mathlib.Core.Bool.{Bool, false, _||_, not, or-assoc, or-false}
 use mathlib.Core.List.{List, [], _∷_}
 use lib.ListN.{length, take, getD}
 use lib.Seq.{take-length}
@@ -11,15 +12,6 @@ use Rattle.signal.specs.Kind.{knownKind}
 use Rattle.recording.specs.declared.SignalRecord.{SignalRecord}
 use Rattle.recording.specs.Refusals.{unknownKind}
 use Rattle.records.proofs.Rows.{blank}
-use Rattle.records.proofs.Upto.{one-more}
-
-or-assoc : (a b c : Bool) → ((a || b) || c) ≡ (a || (b || c))
-or-assoc true b c = refl
-or-assoc false b c = refl
-
-or-false : (a : Bool) → (a || false) ≡ a
-or-false true = refl
-or-false false = refl
 
 -- of the first i records
 abbrev pub unknownUpto : List SignalRecord → ℕ → Bool
@@ -42,4 +34,4 @@ suc-more (y ∷ ys) (suc i) l =
     ∙ ap (λ (b : Bool). not (knownKind (y .kind)) || b) (suc-more ys i (le-of-suc-le-suc l))
 
 pub unknown-more : (ys : List SignalRecord) (i : ℕ) → i < length ys → (unknownUpto ys i || not (knownKind (getD ys i blank .kind))) ≡ unknownUpto ys (i + 1)
-unknown-more ys i l = subst (λ (j : ℕ). (unknownUpto ys i || not (knownKind (getD ys i blank .kind))) ≡ unknownUpto ys j) (sym (one-more i)) (suc-more ys i l)
+unknown-more ys i l = subst (λ (j : ℕ). (unknownUpto ys i || not (knownKind (getD ys i blank .kind))) ≡ unknownUpto ys j) (sym (add-one i)) (suc-more ys i l)

@@ -1,8 +1,6 @@
 -- The numbers up to n, nearer to n with each turn of a loop.
 -- Assumes nothing.
-use mathlib.Core.Path.{_≡_, _∙_, ap}
-use Prim.Native.Nat.{ℕ, zero, suc, _+_, _-_, _≤_, _<_}
-use native.Mathlib.Nat.{add-zero, add-suc}
+use Prim.Native.Nat.{ℕ, _-_, _≤_, _<_}
 use mathlib.Core.WellFounded.{WellFounded, InvImage·wf}
 use lib.WfN.{Nat·lt-wfRel}
 use mir.Syntax.{Body, skip, seq, assign, block, loop, cond, switch, exit, return, call}
@@ -19,9 +17,6 @@ rest-of (switch c cs) = skip
 rest-of (exit n) = skip
 rest-of return = skip
 rest-of (call f xs d) = skip
-
-pub one-more : (i : ℕ) → i + 1 ≡ suc i
-one-more i = add-suc i zero ∙ ap suc (add-zero i)
 
 module _ (n : ℕ) where
   abbrev pub Upto : Type 0

@@ -20,7 +20,6 @@ limits-past s records times work image o a b h t = rw (o, le-ltb (s .limit) 2 a,
 
 -- what holds where no test of the state refuses a call
 pub record Sound (s : Encoder) (records times work image : ℕ) : Type 0 where
-  pub going : s .closed ≡ false
   pub low : 2 ≤ s .limit
   pub high : s .limit ≤ 65535
   pub held : s .held ≤ s .limit
@@ -38,7 +37,6 @@ sound s records times work image e =
     let b = none-holds (ltb (s .limit) 2) (ltb 65535 (s .limit)) (f .1 .0) in
     let u = none-holds (ltb work (s .work)) (ltb image (s .image)) (f .1 .1 .1 .1 .0) in
     record {
-      going = f .0;
       low = ltb-false _ _ (b .0);
       high = ltb-false _ _ (b .1);
       held = ltb-false _ _ (f .1 .1 .0);

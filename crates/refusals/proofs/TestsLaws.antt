@@ -8,6 +8,7 @@ use native.Mathlib.Omega.{arith}
 use borrow.Author.Tests.{lt-ltb, le-ltb, le-leb, lt-leb, eq-eqb, ne-eqb}
 use lib.Dec.{ltb, T, ltb→lt}
 use Rattle.lists.specs.Choice.{pick}
+use Rattle.lists.proofs.Table.{and-left, and-right}
 use Rattle.recording.specs.Memory.{Tests, first, guarded}
 
 pub ruleset tests = (lt-ltb, le-ltb, le-leb, lt-leb, eq-eqb, ne-eqb)
@@ -24,14 +25,6 @@ positive (t ∷ ts) = ltb 0 (t .1) && positive ts
 past : (t : Bool) (m r : ℕ) → T (ltb 0 m) → pick t m r ≡ 0 → (t ≡ false) × (r ≡ 0)
 past true m r p e = let q = ltb→lt 0 m p in absurd (omega arith)
 past false m r p e = (refl, e)
-
-and-left : (a b : Bool) → T (a && b) → T a
-and-left true b t = tt
-and-left false b t = t
-
-and-right : (a b : Bool) → T (a && b) → T b
-and-right true b t = t
-and-right false b t = absurd t
 
 pub none-of : (ts : Tests) → T (positive ts) → first ts ≡ 0 → AllFalse ts
 none-of [] p e = tt

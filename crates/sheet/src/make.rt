@@ -13,16 +13,7 @@ use plan::Outcome;
 use recording::Answer;
 use recording::Encoder;
 use text::before;
-ghost use Prim.Native.Nat.{_≤_};
-
-fn least(a: usize, b: usize) -> usize
-    ensures { λ r. ⌜ (r ≤ a) × (r ≤ b) ⌝ }
-{
-    if a < b {
-        return a;
-    }
-    b
-}
+use text::least;
 
 // Makes a call, and prints its answer.
 fn answered(

@@ -10,11 +10,11 @@ use lib.Dec.{leb}
 use lib.ListN.{length, getD}
 use Rattle.lists.specs.Choice.{pick}
 use Rattle.lists.proofs.SmallLaws.{one-element}
-use Rattle.value.specs.Class.{statesOf, classNumber, classOf, classOfAll, allSymbols}
+use Rattle.value.specs.Class.{statesOf, classNumber, classOfAll, allSymbols}
 use Rattle.value.specs.Change.{changeOf}
 use Rattle.value.specs.declared.states.States.{States}
 use Rattle.value.specs.declared.symbol.Bit.{Bit}
-use Rattle.value.proofs.ClassLaws.{number-states, class-all-small}
+use Rattle.value.proofs.ClassLaws.{number-states, class-all-small, one-class}
 use Rattle.signal.specs.declared.kind.SignalEncoding.{SignalEncoding}
 use Rattle.signal.specs.declared.kind.SignalEncoding.the-variants.{BitVector, Real, Absent}
 use Rattle.signal.specs.declared.decode.ChangeValue.the-variants as value
@@ -31,12 +31,6 @@ use Rattle.signal.specs.Answer.{decodedAs, vectorAnswer}
 abbrev pub Wide : ℕ → Option (List ℕ) → Type 0
 Wide w none = Unit {0}
 Wide w (some s) = length s ≡ w
-
-one-class : (s : List ℕ) → length s ≡ 1 → classOfAll s ≡ classOf (getD s 0 0)
-unfolding classOfAll
-one-class [] e = absurd (omega arith)
-one-class (x ∷ []) e = omega arith
-one-class (x ∷ y ∷ s) e = absurd (omega arith)
 
 -- the code's answer from the answer for the vector alone
 pub vector-answer : (w : ℕ) (o : Option (List ℕ)) (c : ℕ) → Wide (suc w) o → vectorAnswer (changeOf (suc w) o) c ≡ decodedAs (BitVector (suc w)) (vectorSays o c)

@@ -3,7 +3,7 @@
 -- Assumes nothing.
 use Prim.Native.Nat.{ℕ, zero, suc, _+_, _*_, _/_, _%_, _≤_, _<_, _^_}
 use mathlib.Core.Path.{_≡_, refl, sym, ap, ap₂, _∙_, subst}
-use mathlib.Core.Bool.{Bool, true, false, _&&_}
+use mathlib.Core.Bool.{true, _&&_}
 use mathlib.Core.List.{List, [], _∷_, _++_, append-assoc}
 use native.Mathlib.Nat.{zero-add}
 use native.Mathlib.Omega.{arith}
@@ -11,12 +11,12 @@ use borrow.Author.Tests.{le-leb, leb-true, eq-eqb, eqb-true}
 use lib.Dec.{leb, eqb}
 use lib.ListN.{length, take, drop, getD, length-append, take-append-drop}
 use lib.Seq.{drop-append-seam, length-take-le, take-at, drop-at}
-use Rattle.lists.specs.Choice.{pick}
-use Rattle.lists.specs.Got.{Got, bad, got}
+use Rattle.lists.specs.Got.{got}
 use Rattle.lists.specs.Bytes.{Bytes}
 use Rattle.lists.proofs.BytesLaws.{drop-bytes, take-bytes}
 use Rattle.lists.proofs.ChoiceLaws.{both-hold}
 use Rattle.lists.proofs.SmallLaws.{one-element}
+use Rattle.lists.proofs.GotLaws.{bad-got, by-test}
 use Rattle.numbers.specs.Leb128.{lebOf, readLeb}
 use Rattle.numbers.specs.LittleEndian.{le, unle}
 use Rattle.numbers.specs.declared.leb128.Leb128.{Leb128}
@@ -113,14 +113,6 @@ pub record WrittenAs (k : SignalEncoding) (s : List ℕ) (x : Change) (r : List 
   pub fits : ChangeFits k x
   pub form : s ≡ changeBytes k (x .d) (x .content) ++ r
 
-nothing : {A : Type 0} {x : Change} {r : List ℕ} → bad ≡ got x r → A
-nothing {x = x} {r = r} e = let z : _≡_ {A = ℕ} 0 1 = cc in absurd (omega arith)
-
--- by a test that led to a change
-by-test : {A : Type 0} {x : Change} {r : List ℕ} (t : Bool) (g : Got Change) → pick t g bad ≡ got x r → (t ≡ true → g ≡ got x r → A) → A
-by-test true g e f = f refl e
-by-test false g e f = nothing e
-
 -- a change with its d in range
 by-found : {A : Type 0} (d : ℕ) (c : Content) (t : List ℕ) {x : Change} {r : List ℕ} → found d c t ≡ got x r
     → (d ≤ maxDelta → change d c ≡ x → t ≡ r → A) → A
@@ -204,7 +196,7 @@ value-back (BitVector zero) v t x r y e = event-back v t x r e
 value-back (BitVector (suc zero)) v t x r y e = bit-back v t x r e
 value-back (BitVector (suc (suc w))) v t x r y e = wide-back w v t x r y e
 value-back Real v t x r y e = real-back v t x r y e
-value-back Absent v t x r y e = nothing e
+value-back Absent v t x r y e = bad-got e
 
 -- what is read was written so
 pub written-read : (k : SignalEncoding) (s : List ℕ) (x : Change) (r : List ℕ) → Bytes s → readChange k s ≡ got x r → WrittenAs k s x r
@@ -217,4 +209,4 @@ written-read k s x r y e = by (readLeb 5 0 s) refl e
         let past : n ≡ length (lebOf v) = w .past ∙ zero-add (length (lebOf v)) in
         subst (λ (l : List ℕ). WrittenAs k l x r) (sym (w .form ∙ ap (λ (m : ℕ). lebOf v ++ drop m s) (sym past)))
         (value-back k v (drop n s) x r (drop-bytes n s y) e)
-    by Bad q e = nothing e
+    by Bad q e = bad-got e

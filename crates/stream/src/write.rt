@@ -4,6 +4,7 @@ use numbers::leb128::put_leb128;
 use numbers::little_endian::put_u64;
 use packed::bytes_required;
 use packed::raw::raw_part;
+use packed::wide;
 use packer::Notation;
 use packer::pack;
 use signal::decode::ChangeValue;
@@ -23,12 +24,6 @@ ghost use Rattle.signal.specs.Content.{symbols, bits, vcd, raw};
 ghost use Rattle.signal.specs.declared.kind.SignalEncoding.the-variants.{BitVector, Real};
 ghost use Rattle.stream.specs.Stream.{changeBytes, maxDelta};
 ghost use Rattle.stream.specs.Answer.{changeLength, changeNumber, tailLength, Says, saidBytes};
-
-fn wide(x: u8) -> u32
-    ensures { λ r. ⌜ r ≡ x ⌝ }
-{
-    x as u32
-}
 
 // The number that a change begins with.
 fn change_number(d: u32, value: ChangeValue) -> u32

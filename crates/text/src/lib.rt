@@ -1,10 +1,20 @@
-// Text in byte slices, for the programs. Past the end stand zeros, and parts end where the slice does.
+// Text in byte slices, and what is printed, for the programs. Past the end stand zeros, and parts end where the slice does.
 pub mod number;
 
 use libc::STDOUT_FILENO;
-ghost use Prim.Native.Nat.{_<_};
+ghost use Prim.Native.Nat.{_≤_, _<_};
 ghost use mathlib.Core.Path.{_≡_};
 ghost use lib.ListN.{length};
+
+// The lesser of two lengths.
+pub fn least(a: usize, b: usize) -> usize
+    ensures { λ r. ⌜ (r ≤ a) × (r ≤ b) ⌝ }
+{
+    if a < b {
+        return a;
+    }
+    b
+}
 
 pub fn wide(x: u8) -> u64
     ensures { λ r. ⌜ (r ≡ x) × (r < 256) ⌝ }
@@ -79,6 +89,11 @@ pub fn spells(word: &[u8], name: &[u8]) -> bool {
 
 pub fn print(text: &[u8]) {
     io::write_all(STDOUT_FILENO, text);
+}
+
+// A number in decimal.
+pub fn print_number(n: u64) {
+    io::print_decimal(STDOUT_FILENO, n);
 }
 
 // Each byte as two digits.

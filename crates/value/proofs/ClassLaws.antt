@@ -7,6 +7,7 @@ use mathlib.Core.List.{List, [], _∷_}
 use native.Mathlib.Omega.{arith}
 use borrow.Author.Tests.{lt-ltb, le-ltb, ltb-true, ltb-false, leb-true, leb-false, le-leb, lt-leb}
 use lib.Dec.{ltb, leb}
+use lib.ListN.{length, getD}
 use Rattle.lists.specs.Choice.{pick}
 use Rattle.value.specs.Class.{classNumber, statesOf, classOf, classOfAll, allSymbols, minStates, largestOf}
 use Rattle.value.specs.declared.states.States.{States}
@@ -108,3 +109,10 @@ join-right a b p q h = let e : max (classNumber a) (classNumber b) ≡ classNumb
 
 pub join-left : (a b : States) {x y : ℕ} → x ≡ classNumber a → y ≡ classNumber b → y ≤ x → a ≡ statesOf (max (classNumber a) (classNumber b))
 join-left a b p q h = let e : max (classNumber a) (classNumber b) ≡ classNumber a = omega arith in rw e (sym (states-number a))
+
+-- one symbol's class
+pub one-class : (s : List ℕ) → length s ≡ 1 → classOfAll s ≡ classOf (getD s 0 0)
+unfolding classOfAll
+one-class [] e = absurd (omega arith)
+one-class (x ∷ []) e = omega arith
+one-class (x ∷ y ∷ s) e = absurd (omega arith)

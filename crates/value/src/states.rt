@@ -11,12 +11,14 @@ pub enum States {
     Nine,
 }
 
+// A class, or that there is none.
 pub enum MaybeStates {
     Some(States),
     None,
 }
 
 impl States {
+    // Two, Four and Nine are 0, 1 and 2.
     pub fn number(self) -> u8
         ensures { λ r. ⌜ r ≡ classNumber self ⌝ }
     {
@@ -27,7 +29,7 @@ impl States {
         }
     }
 
-    // A number above 2 gives Nine.
+    // A number above 1 gives Nine.
     pub fn from_number(n: u8) -> States
         ensures { λ r. ⌜ r ≡ statesOf n ⌝ }
     {
@@ -40,6 +42,7 @@ impl States {
         States::Nine
     }
 
+    // The least class that holds a symbol.
     pub fn from_bit(value: Bit) -> States
         ensures { λ r. ⌜ r ≡ statesOf (classOf (value .0)) ⌝ }
     {
@@ -52,6 +55,7 @@ impl States {
         }
     }
 
+    // The larger class.
     pub fn join(a: States, b: States) -> States
         ensures { λ r. ⌜ r ≡ statesOf (max (classNumber a) (classNumber b)) ⌝ }
     {

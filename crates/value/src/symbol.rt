@@ -5,6 +5,7 @@ ghost use Rattle.value.specs.Symbol.{symbolOf, isDigit, maybeBit, orNumb
 // A symbol's number: 0 1 x z h u w l - are 0 to 8.
 pub struct Bit(pub u8);
 
+// A symbol, or that there is none.
 pub enum MaybeBit {
     Some(Bit),
     None,

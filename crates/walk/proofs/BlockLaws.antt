@@ -1,4 +1,4 @@
--- Where an accepted image's blocks begin, and what stands at which place of one.
+-- Where an accepted image's blocks begin, that each fits, and what stands at which place of one.
 -- Assumes nothing.
 use Prim.Native.Nat.{ℕ, zero, suc, _+_, _*_, _^_, _≤_, _<_}
 use mathlib.Core.Path.{_≡_, refl, sym, ap, _∙_}
@@ -11,16 +11,15 @@ use lib.Seq.{drop-cons, take-suc, take-length}
 use Rattle.lists.specs.Bytes.{Bytes}
 use Rattle.numbers.specs.LittleEndian.{le, unle}
 use Rattle.numbers.proofs.LittleEndianLaws.{length-le}
-use Rattle.signal.specs.declared.kind.SignalEncoding.{SignalEncoding}
 use Rattle.stream.specs.Entries.{Entry}
 use Rattle.image.specs.Block.{Part, Block, block, les, dataOf, offsetsFrom, blockSize, blockBytes}
 use Rattle.image.specs.Head.{headSize, imageLimit}
 use Rattle.image.specs.Image.{Image, streamedParts, streamed, blocksBytes}
 use Rattle.image.proofs.SizeLaws.{length-les, length-offsets, block-size}
-use Rattle.codec.specs.Valid.{EachBelow, BlocksFit}
+use Rattle.codec.specs.Valid.{EachBelow}
 use Rattle.codec.proofs.Trip.{Means}
 use Rattle.codec.proofs.WrittenOut.{count-streamed}
-use Rattle.codec.proofs.Growth.{blocks-append, blocks-one}
+use Rattle.codec.proofs.Growth.{blocks-append, blocks-one, Fitting, blocks-each}
 use Rattle.loaded.specs.Opener.{blockAt}
 use Rattle.walk.specs.Walk.{Opened, imageIn, blockPlace, partsIn, dataPlace, BlockHere}
 use Rattle.walk.proofs.StandLaws.{Stands, stands-front, stands-back, Number, stands-number, stands-nth}
@@ -120,6 +119,10 @@ block-in b x n m h =
     let e : length (y .parts) ≡ length (x .kinds) = count-streamed (x .kinds) (blockAt x n .parts) in
     rw e at (inside b (blockPlace x n) y (head-at b x m .most) (block-stands b x n m h))
 
+-- of an accepted image: it fits after those before it
+pub fits-in : (n : ℕ) (b : List ℕ) → Bytes b → Opened b → n < length (imageIn b .blocks) → Fitting (imageIn b .limit) (imageIn b .kinds) (blockAt (imageIn b) n)
+fits-in n b y o h = let x = imageIn b in blocks-each (x .limit) (x .kinds) none [] (x .blocks) (block [] []) (means b y o .valid .blocks) n h
+
 -- of an accepted image, at a place where a block begins
 pub here : (n at : ℕ) (b : List ℕ) → Bytes b → Opened b → BlockHere n at b
     → InBlock b at (length (imageIn b .kinds)) (blockAt (imageIn b) n .times) (streamedParts (imageIn b .kinds) (blockAt (imageIn b) n .parts))
@@ -141,22 +144,15 @@ each-below m [] i h k = absurd (omega arith)
 each-below m (x ∷ l) zero h k = h .0
 each-below m (x ∷ l) (suc i) h k = each-below m l i (h .1) (omega arith)
 
-times-small : (limit : ℕ) (ks : List SignalEncoding) (end : Option ℕ) (tops : List ℕ) (bs : List (Block (List Entry))) (n : ℕ)
-    → BlocksFit limit ks end tops bs → EachBelow (2 ^ 64) (getD bs n (block [] []) .times)
-times-small limit ks end tops [] n f = tt
-times-small limit ks end tops (y ∷ bs) zero f = f .0 .small
-times-small limit ks end tops (y ∷ bs) (suc n) f = times-small limit ks _ _ bs n (f .1)
-
 pub time-here : (n at i : ℕ) (b : List ℕ) → Bytes b → Opened b → BlockHere n at b → i < length (blockAt (imageIn b) n .times)
     → Number b (at + 12 + 4 * length (imageIn b .kinds) + 8 * i) 8 (getD (blockAt (imageIn b) n .times) i 0)
 time-here n at i b y o h k =
     let x = imageIn b in
-    let m = means b y o in
     let ts = blockAt x n .times in
     let p : ℕ = at + 12 + 4 * length (x .kinds) in
     let s = stands-nth 8 ts b p i k (here n at b y o h .times) in
     let e : p + i * 8 ≡ p + 8 * i = omega arith in
-    stands-number b (p + 8 * i) 8 (getD ts i 0) (each-below (2 ^ 64) ts i (times-small (x .limit) (x .kinds) none [] (x .blocks) n (m .valid .blocks)) k) (rw e at s)
+    stands-number b (p + 8 * i) 8 (getD ts i 0) (each-below (2 ^ 64) ts i (fits-in n b y o (h .exists) .fits .small) k) (rw e at s)
 
 -- the same time, whichever number the block is known by
 pub time-read : (n m at i s : ℕ) (b : List ℕ) → Bytes b → Opened b → BlockHere n at b → i < length (blockAt (imageIn b) n .times) → BlockHere m at b

@@ -2,7 +2,7 @@
 -- Assumes nothing.
 use Prim.Native.Nat.{ℕ, zero, suc, _+_, _-_, _*_, _≤_, _<_}
 use mathlib.Core.Path.{_≡_, refl, sym, ap, _∙_}
-use mathlib.Core.Bool.{true, false}
+use mathlib.Core.Bool.{true}
 use mathlib.Core.List.{List, [], _∷_, _++_, append-assoc}
 use mathlib.Core.Option.{Option, some, none}
 use native.Mathlib.Nat.{add-zero}
@@ -10,7 +10,7 @@ use native.Mathlib.Omega.{arith}
 use lib.ListN.{length, getD, take, drop, length-append, take-append-drop, List·getD-eq-default}
 use lib.Seq.{drop-cons, take-suc, take-all, take-at, drop-drop, getD-drop}
 use Rattle.lists.specs.Bytes.{Bytes}
-use Rattle.lists.specs.Choice.{isSome}
+use Rattle.lists.specs.Choice.{pick, isSome}
 use Rattle.signal.specs.declared.kind.SignalEncoding.{SignalEncoding}
 use Rattle.signal.specs.declared.kind.SignalEncoding.the-variants.{Absent}
 use Rattle.stream.specs.Entries.{Entry, streamBytes}
@@ -20,13 +20,13 @@ use Rattle.image.specs.Image.{Image, streamedPart, streamedParts}
 use Rattle.image.proofs.SizeLaws.{length-offsets}
 use Rattle.form.specs.Decide.{false-true}
 use Rattle.form.proofs.WholeLaws.{none-some}
-use Rattle.codec.specs.Valid.{BlocksFit}
+use Rattle.codec.specs.Valid.{EntriesFit, OptionFits, BlocksFit}
 use Rattle.codec.specs.Parse.{parse}
 use Rattle.codec.proofs.WrittenOut.{count-streamed}
 use Rattle.codec.proofs.Growth.{parts-count}
 use Rattle.loaded.specs.Opener.{kindAt, blockAt, partAt, streamIn, streamFrom, streamOf}
 use Rattle.loaded.specs.Loading.{entriesIn, topIn}
-use Rattle.walk.specs.Walk.{Opened, imageFrom, imageIn, blockPlace, partsIn, dataPlace, partPlace, partThere, BlockHere, PartHere}
+use Rattle.walk.specs.Walk.{Opened, imageFrom, imageIn, blockPlace, partsIn, dataPlace, partPlace, streamPlace, BlockHere, PartHere}
 use Rattle.walk.proofs.StandLaws.{Stands, stands-front, stands-back, Number, stands-number, stands-nth}
 use Rattle.walk.proofs.HeadLaws.{means, head-in}
 use Rattle.walk.proofs.BlockLaws.{here, next-size}
@@ -107,6 +107,10 @@ unfolding streamBytes
 stream-entries k none = refl
 stream-entries k (some p) = refl
 
+pub entries-fit : (k : SignalEncoding) (n i before : ℕ) (p : Option (Part (List Entry))) → OptionFits k n i before p → EntriesFit k n i (topIn p) (entriesIn p)
+entries-fit k n i before none f = tt
+entries-fit k n i before (some p) f = f .entries
+
 -- ---- at a place where a block begins
 
 pub offset-read : (n at g : ℕ) (b : List ℕ) → Bytes b → Opened b → BlockHere n at b → g < length (imageIn b .kinds)
@@ -173,13 +177,17 @@ streamed-at (k ∷ ks) (p ∷ ps) (suc g) h = streamed-at ks ps g (omega arith)
 not-there : {B : Type 0} {p : Option (Part (List Entry))} → p ≡ none → isSome p ≡ true → B
 not-there e h = absurd (false-true (ap isSome (sym e) ∙ h))
 
+place-by : (n g : ℕ) (b : List ℕ) {p : Option (Part (List Entry))} → partAt (blockAt (imageIn b) n) g ≡ p
+    → streamPlace (imageIn b) n g ≡ pick (isSome p) (suc (partPlace (imageIn b) n g)) 0
+place-by n g b e = ap (λ (p : Option (Part (List Entry))). pick (isSome p) (suc (partPlace (imageIn b) n g)) 0) e
+
 no-part : (n g : ℕ) (b : List ℕ) → partAt (blockAt (imageIn b) n) g ≡ none → PartHere 0 0 0 n g b
 no-part n g b e = record {
   ordered = omega arith;
   inside = omega arith;
   stream = ap (streamIn (kindAt (imageIn b) g)) (sym e);
   class = ap topIn (sym e);
-  begin = not-there e;
+  begin = sym (place-by n g b e);
   end = not-there e;
 }
 
@@ -197,12 +205,13 @@ stream-found b n g (some q) a to i f s e u v =
     let d : drop (a + 1) b ≡ l ++ s .rest = sym (drop-drop 1 a b) ∙ ap (drop 1) (s .bytes) in
     let m : to - (a + 1) ≡ length l = omega arith in
     let z : getD b a 0 ≡ getD (drop a b) 0 0 = ap (λ (i : ℕ). getD b i 0) (sym (add-zero a)) ∙ sym (getD-drop a b 0 0) in
+    let before : a + 1 ≡ suc (partPlace (imageIn b) n g) = omega arith in
     record {
       ordered = omega arith;
       inside = omega (arith, s .inside);
       stream = rw (m, d) (take-at l (s .rest) (length l) refl) ∙ ap (streamIn k) (sym i);
       class = z ∙ ap (λ (l : List ℕ). getD l 0 0) (s .bytes) ∙ ap topIn (sym i);
-      begin = λ t. omega arith;
+      begin = before ∙ sym (place-by n g b i);
       end = λ t. v;
     }
 
@@ -263,11 +272,11 @@ unfolding streamOf imageIn
 stream-of b n g = stream-from (parse b) n g
 
 -- past the blocks there is no part
-pub part-past : (b : List ℕ) (n g : ℕ) → length (imageIn b .blocks) ≤ n → partThere (imageIn b) n g ≡ false
-part-past b n g h =
+pub stream-place-past : (b : List ℕ) (n g : ℕ) → length (imageIn b .blocks) ≤ n → 0 ≡ streamPlace (imageIn b) n g
+stream-place-past b n g h =
     let x = imageIn b in
     let e : blockAt x n ≡ block [] [] = List·getD-eq-default (x .blocks) (block [] []) h in
-    ap (λ (y : Block (List Entry)). isSome (partAt y g)) e
+    sym (place-by n g b (ap (λ (y : Block (List Entry)). partAt y g) e))
 
 pub stream-past : (b : List ℕ) (n g : ℕ) → length (imageIn b .blocks) ≤ n → [] ≡ streamOf b n g
 stream-past b n g h =

@@ -1,6 +1,6 @@
 -- The combined table of an accepted image: all times of the first block, and of each later one all but the first.
 -- Assumes nothing.
-use Prim.Native.Nat.{ℕ, zero, suc, _+_, _-_, _≤_, _<_}
+use Prim.Native.Nat.{ℕ, suc, _+_, _-_, _≤_, _<_}
 use mathlib.Core.Path.{_≡_, refl, sym, ap, _∙_}
 use mathlib.Core.List.{List, [], _∷_, _++_, append-assoc, append-nil}
 use mathlib.Core.Option.{Option, some, none}
@@ -11,6 +11,7 @@ use lib.ListN.{length, getD, set, drop, length-append, length-drop, drop-of-leng
 use lib.Seq.{sets, drop-cons, drop-length}
 use Rattle.lists.specs.Last.{lastOr}
 use Rattle.lists.specs.Bytes.{Bytes}
+use Rattle.lists.proofs.LastLaws.{last-append}
 use Rattle.lists.proofs.SetsLaws.{sets-append}
 use Rattle.signal.specs.declared.kind.SignalEncoding.{SignalEncoding}
 use Rattle.stream.specs.Entries.{Entry}
@@ -24,19 +25,15 @@ use Rattle.loaded.specs.Loading.{joinTimes, tableFrom}
 use Rattle.loaded.specs.Reader.{refuse, counted, tableAfter, tableIn}
 use Rattle.walk.specs.Walk.{Opened, imageIn, addedTimes}
 use Rattle.walk.proofs.HeadLaws.{means, head-in}
+use Rattle.walk.proofs.BlockLaws.{fits-in}
 
 -- ---- each block's first time but the first block's is in the table already
-
-last-append : (x : ℕ) (l : List ℕ) (v : ℕ) (r : List ℕ) → lastOr x (l ++ v ∷ r) ≡ lastOr v r
-unfolding lastOr
-last-append x [] v r = refl
-last-append x (y ∷ l) v r = last-append y l v r
 
 last-more : (x : ℕ) (l ts : List ℕ) → 2 ≤ length ts → lastOr x (l ++ drop 1 ts) ≡ lastOr 0 ts
 unfolding lastOr
 last-more x l [] h = absurd (omega arith)
 last-more x l (u ∷ []) h = absurd (omega arith)
-last-more x l (u ∷ v ∷ r) h = last-append x l v r
+last-more x l (u ∷ v ∷ r) h = last-append x l (v ∷ r)
 
 one-more : (t x : ℕ) (l ts : List ℕ) → Begins (some t) ts → lastOr x l ≡ t → joinTimes (x ∷ l) ts ≡ x ∷ (l ++ drop 1 ts)
 one-more t x l [] h e = absurd (omega (arith, h .0))
@@ -63,16 +60,10 @@ module _ (limit : ℕ) (ks : List SignalEncoding) where
   table-is tops [] f = refl
   table-is tops (y ∷ bs) f = first-times _ bs (y .times) (f .0 .begins) (f .1)
 
-  -- a block has a time
-  times-begin : (end : Option ℕ) (ts : List ℕ) → Begins end ts → 1 ≤ length ts
-  times-begin none ts h = h
-  times-begin (some t) ts h = omega (arith, h .0)
-
-  times-any : (end : Option ℕ) (tops : List ℕ) (bs : List (Block (List Entry))) (n : ℕ) → BlocksFit limit ks end tops bs → n < length bs
-      → 1 ≤ length (getD bs n (block [] []) .times)
-  times-any end tops [] n f h = absurd (omega arith)
-  times-any end tops (y ∷ bs) zero f h = times-begin end (y .times) (f .0 .begins)
-  times-any end tops (y ∷ bs) (suc n) f h = times-any _ _ bs n (f .1) (omega arith)
+-- a block has a time
+times-begin : (end : Option ℕ) (ts : List ℕ) → Begins end ts → 1 ≤ length ts
+times-begin none ts h = h
+times-begin (some t) ts h = omega (arith, h .0)
 
 -- the table has no more times than the image bytes
 joined-small : (skip : ℕ) (ks : List SignalEncoding) (bs : List (Block (List Entry))) → length (addedTimes skip bs) ≤ length (blocksBytes ks bs)
@@ -100,7 +91,7 @@ table-small b y o =
     omega (arith, joined-small 0 (x .kinds) (x .blocks), h .size, h .most)
 
 any-time : (n : ℕ) (b : List ℕ) → Bytes b → Opened b → n < length (imageIn b .blocks) → 1 ≤ length (blockAt (imageIn b) n .times)
-any-time n b y o h = let x = imageIn b in times-any (x .limit) (x .kinds) none [] (x .blocks) n (means b y o .valid .blocks) h
+any-time n b y o h = let f = fits-in n b y o h in times-begin (f .end) (blockAt (imageIn b) n .times) (f .fits .begins)
 
 -- ---- a turn over the blocks
 

@@ -7,7 +7,7 @@ use mathlib.Core.Bool.{Bool, true}
 use mathlib.Core.List.{List, [], _∷_, _++_}
 use mathlib.Core.Option.{Option, some, none}
 use lib.ListN.{length, take, drop}
-use Rattle.lists.specs.Choice.{isSome}
+use Rattle.lists.specs.Choice.{pick, isSome}
 use Rattle.stream.specs.Entries.{Entry}
 use Rattle.image.specs.Block.{Part, Block, dataOf, blockSize}
 use Rattle.image.specs.Head.{headSize}
@@ -65,14 +65,18 @@ SignalHere at g b = SomeBlock at b × (g < length (imageIn b .kinds))
 abbrev pub partThere : Image → (n g : ℕ) → Bool
 partThere x n g = isSome (partAt (blockAt x n) g)
 
--- the bytes from one place to another are the stream of signal g in block number n, and `top` is its top class; they begin after the
--- part's class byte and end where the next part begins, if there are changes
+-- where its stream there begins: after the part's class byte; 0 if there are no changes
+abbrev pub streamPlace : Image → (n g : ℕ) → ℕ
+streamPlace x n g = pick (partThere x n g) (suc (partPlace x n g)) 0
+
+-- the bytes from one place to another are the stream of signal g in block number n, and `top` is its top class; they end where the next
+-- part begins, if there are changes
 pub record PartHere (from to top n g : ℕ) (b : List ℕ) : Type 0 where
   pub ordered : from ≤ to
   pub inside : to ≤ length b
   pub stream : take (to - from) (drop from b) ≡ streamIn (kindAt (imageIn b) g) (partAt (blockAt (imageIn b) n) g)
   pub class : top ≡ topIn (partAt (blockAt (imageIn b) n) g)
-  pub begin : partThere (imageIn b) n g ≡ true → from ≡ suc (partPlace (imageIn b) n g)
+  pub begin : from ≡ streamPlace (imageIn b) n g
   pub end : partThere (imageIn b) n g ≡ true → to ≡ partPlace (imageIn b) n (suc g)
 
 -- the times that blocks add to the combined table: those of the first one without its first `skip`, those of each later one without the

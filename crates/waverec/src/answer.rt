@@ -1,12 +1,8 @@
 // What is printed.
-use libc::STDOUT_FILENO;
 use recording::Answer;
 use text::print;
 use text::print_bytes;
-
-fn print_number(n: u64) {
-    io::print_decimal(STDOUT_FILENO, n);
-}
+use text::print_number;
 
 fn print_finished(total: u32, skipped: u32) {
     print(b"finished ");

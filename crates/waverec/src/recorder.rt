@@ -15,16 +15,7 @@ use plan::Outcome;
 use recording::Encoder;
 use recording::SignalRef;
 use text::before;
-ghost use Prim.Native.Nat.{_≤_};
-
-fn least(a: usize, b: usize) -> usize
-    ensures { λ r. ⌜ (r ≤ a) × (r ≤ b) ⌝ }
-{
-    if a < b {
-        return a;
-    }
-    b
-}
+use text::least;
 
 // A raw change, whose bytes are written into memory of their own: a line of a sheet has fewer than 32,768.
 fn raw_change(

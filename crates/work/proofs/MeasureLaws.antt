@@ -14,11 +14,11 @@ use lib.Dec.{eqb}
 use lib.ListN.{length, take, drop, length-append, length-drop}
 use lib.Seq.{length-take-le}
 use Rattle.lists.specs.Choice.{pick, isSome, orEmpty}
-use Rattle.lists.proofs.ChoiceLaws.{some-there}
+use Rattle.lists.proofs.ChoiceLaws.{some-there, pick-same}
 use Rattle.numbers.specs.LittleEndian.{unle}
 use Rattle.recording.specs.Work.{Item, item, signalAt, sizeAt, itemsOf, itemsIn, gather}
 use Rattle.work.specs.Measure.{partLength, dataLength, measured}
-use Rattle.work.specs.Counting.{total, sum, sign, changed, fresh, scanned}
+use Rattle.work.specs.Counting.{total, sum, sign, changed, unmarked, scanned}
 use Rattle.work.specs.declared.Measured.the-variants as measure
 use Rattle.work.specs.declared.Scanned.{Scanned}
 use Rattle.work.specs.declared.Scanned.the-variants.{Sums, Damaged}
@@ -35,13 +35,9 @@ gather-other : (j s : ℕ) (b : List ℕ) (is : List Item) → (j ≡ s → ⊥)
 unfolding gather
 gather-other j s b is h = rw (ne-eqb s j (λ e. h (sym e))) refl
 
-pick-nothing : (t : Bool) (l : List ℕ) → pick t [] [] ++ l ≡ l
-pick-nothing true l = refl
-pick-nothing false l = refl
-
 gather-empty : (j s : ℕ) (b : List ℕ) (is : List Item) → length b ≡ 0 → gather j (item s b ∷ is) ≡ gather j is
 unfolding gather
-gather-empty j s [] is h = pick-nothing (eqb s j) (gather j is)
+gather-empty j s [] is h = rw (pick-same {A = List ℕ} (eqb s j) []) refl
 gather-empty j s (x ∷ b) is h = absurd (omega arith)
 
 gather-past : (n j : ℕ) (is : List Item) → Below n is → n ≤ j → gather j is ≡ []
@@ -114,40 +110,36 @@ changed-windows n is h = sym (changed-more 0 65536 (n - 65536) is) ∙ changed-e
 
 -- ---- one window, a record at a time
 
-pub fresh-none : (m : ℕ → Bool) (base : ℕ) (is : List Item) → ((i : ℕ) → m i ≡ false) → fresh m base is ≡ changed base 65536 is
-unfolding fresh changed
-fresh-none m base is h =
+pub unmarked-none : (m : ℕ → Bool) (base : ℕ) (is : List Item) → ((i : ℕ) → m i ≡ false) → unmarked m base is ≡ changed base 65536 is
+unfolding unmarked changed
+unmarked-none m base is h =
     sum-same (λ i. pick (m i) 0 (sign (length (gather (base + i) is)))) (λ i. sign (length (gather (base + i) is))) 0 65536
     (λ i a b. rw (h i) refl)
     ∙ sum-shift (λ j. sign (length (gather j is))) base 0 65536 ∙ simp add-zero
 
-pick-zero : (t : Bool) → _≡_ {A = ℕ} (pick t 0 0) 0
-pick-zero true = refl
-pick-zero false = refl
-
-pub fresh-end : (m : ℕ → Bool) (base : ℕ) → fresh m base [] ≡ 0
-unfolding fresh gather
-fresh-end m base = sum-zero (λ i. pick (m i) 0 0) 0 65536 (λ i l. pick-zero (m i))
+pub unmarked-end : (m : ℕ → Bool) (base : ℕ) → unmarked m base [] ≡ 0
+unfolding unmarked gather
+unmarked-end m base = sum-zero (λ i. pick (m i) 0 0) 0 65536 (λ i l. pick-same (m i) 0)
 
 -- a record that changes nothing: without bytes, of a signal outside the window, of a signal that is marked
-fresh-same : (m : ℕ → Bool) (base s : ℕ) (b : List ℕ) (is : List Item)
+unmarked-same : (m : ℕ → Bool) (base s : ℕ) (b : List ℕ) (is : List Item)
     → ((i : ℕ) → i < 65536 → pick (m i) 0 (sign (length (gather (base + i) is))) ≡ pick (m i) 0 (sign (length (gather (base + i) (item s b ∷ is)))))
-    → fresh m base is ≡ fresh m base (item s b ∷ is)
-unfolding fresh
-fresh-same m base s b is h =
+    → unmarked m base is ≡ unmarked m base (item s b ∷ is)
+unfolding unmarked
+unmarked-same m base s b is h =
     sum-same (λ i. pick (m i) 0 (sign (length (gather (base + i) is)))) (λ i. pick (m i) 0 (sign (length (gather (base + i) (item s b ∷ is))))) 0 65536
     (λ i l u. h i (omega arith))
 
-pub fresh-empty : (m : ℕ → Bool) (base s : ℕ) (b : List ℕ) (is : List Item) → length b ≡ 0 → fresh m base is ≡ fresh m base (item s b ∷ is)
-fresh-empty m base s b is h = fresh-same m base s b is (λ i l. rw (gather-empty (base + i) s b is h) refl)
+pub unmarked-empty : (m : ℕ → Bool) (base s : ℕ) (b : List ℕ) (is : List Item) → length b ≡ 0 → unmarked m base is ≡ unmarked m base (item s b ∷ is)
+unmarked-empty m base s b is h = unmarked-same m base s b is (λ i l. rw (gather-empty (base + i) s b is h) refl)
 
-pub fresh-outside : (m : ℕ → Bool) (base s : ℕ) (b : List ℕ) (is : List Item) → ((i : ℕ) → i < 65536 → base + i ≡ s → ⊥)
-    → fresh m base is ≡ fresh m base (item s b ∷ is)
-fresh-outside m base s b is h = fresh-same m base s b is (λ i l. rw (gather-other (base + i) s b is (h i l)) refl)
+pub unmarked-outside : (m : ℕ → Bool) (base s : ℕ) (b : List ℕ) (is : List Item) → ((i : ℕ) → i < 65536 → base + i ≡ s → ⊥)
+    → unmarked m base is ≡ unmarked m base (item s b ∷ is)
+unmarked-outside m base s b is h = unmarked-same m base s b is (λ i l. rw (gather-other (base + i) s b is (h i l)) refl)
 
-pub fresh-marked : (m : ℕ → Bool) (base s : ℕ) (b : List ℕ) (is : List Item) → m (s - base) ≡ true
-    → fresh m base is ≡ fresh m base (item s b ∷ is)
-fresh-marked m base s b is h = fresh-same m base s b is (λ i l. by-place i (ℕ-discrete (base + i) s))
+pub unmarked-marked : (m : ℕ → Bool) (base s : ℕ) (b : List ℕ) (is : List Item) → m (s - base) ≡ true
+    → unmarked m base is ≡ unmarked m base (item s b ∷ is)
+unmarked-marked m base s b is h = unmarked-same m base s b is (λ i l. by-place i (ℕ-discrete (base + i) s))
   where
     by-place : (i : ℕ) → Dec (base + i ≡ s) → pick (m i) 0 (sign (length (gather (base + i) is))) ≡ pick (m i) 0 (sign (length (gather (base + i) (item s b ∷ is))))
     by-place i (yes e) =
@@ -157,10 +149,10 @@ fresh-marked m base s b is h = fresh-same m base s b is (λ i l. by-place i (ℕ
     by-place i (no e) = rw (gather-other (base + i) s b is e) refl
 
 -- the first record of a signal of the window that has bytes
-pub fresh-first : (m m' : ℕ → Bool) (base s : ℕ) (b : List ℕ) (is : List Item) → base ≤ s → s - base < 65536 → 0 < length b → m (s - base) ≡ false
-    → ((j : ℕ) → m' j ≡ (eqb j (s - base) || m j)) → 1 + fresh m' base is ≡ fresh m base (item s b ∷ is)
-unfolding fresh
-fresh-first m m' base s b is l u p h k =
+pub unmarked-first : (m m' : ℕ → Bool) (base s : ℕ) (b : List ℕ) (is : List Item) → base ≤ s → s - base < 65536 → 0 < length b → m (s - base) ≡ false
+    → ((j : ℕ) → m' j ≡ (eqb j (s - base) || m j)) → 1 + unmarked m' base is ≡ unmarked m base (item s b ∷ is)
+unfolding unmarked
+unmarked-first m m' base s b is l u p h k =
     sym (sum-one (λ i. pick (m i) 0 (sign (length (gather (base + i) (item s b ∷ is))))) (λ i. pick (m' i) 0 (sign (length (gather (base + i) is))))
     (s - base) 1 0 65536 (omega arith) (omega arith) here other)
   where
@@ -188,19 +180,19 @@ fresh-first m m' base s b is l u p h k =
 -- what is found at last: the bytes and signals so far, with what the rest brings of both, those signals not counted that are in the set m
 abbrev pub onward : (m : ℕ → Bool) (base bytes signals : ℕ) → Option (List Item) → Scanned
 onward m base a c none = Damaged
-onward m base a c (some is) = Sums (a + total is) (c + fresh m base is)
+onward m base a c (some is) = Sums (a + total is) (c + unmarked m base is)
 
 pub onward-start : (m : ℕ → Bool) (base : ℕ) (o : Option (List Item)) → ((i : ℕ) → m i ≡ false) → scanned base o ≡ onward m base 0 0 o
 onward-start m base none h = refl
-onward-start m base (some is) h = rw (zero-add (total is), zero-add (fresh m base is), fresh-none m base is h) refl
+onward-start m base (some is) h = rw (zero-add (total is), zero-add (unmarked m base is), unmarked-none m base is h) refl
 
 pub onward-end : (m : ℕ → Bool) (base a c : ℕ) → onward m base a c (some []) ≡ Sums a c
 unfolding total
-onward-end m base a c = rw (fresh-end m base, add-zero a, add-zero c) refl
+onward-end m base a c = rw (unmarked-end m base, add-zero a, add-zero c) refl
 
 -- what a record of the signal s with z bytes counts, which leaves the set m'
 abbrev pub Counts : (m m' : ℕ → Bool) (base s z r : ℕ) → Type 0
-Counts m m' base s z r = (stream : List ℕ) (rest : List Item) → length stream ≡ z → r + fresh m' base rest ≡ fresh m base (item s stream ∷ rest)
+Counts m m' base s z r = (stream : List ℕ) (rest : List Item) → length stream ≡ z → r + unmarked m' base rest ≡ unmarked m base (item s stream ∷ rest)
 
 onward-first : (m m' : ℕ → Bool) (base a c r : ℕ) (w : List ℕ) (o : Option (List Item)) → 8 + sizeAt w ≤ length w
     → Counts m m' base (signalAt w) (sizeAt w) r → onward m base a c (withFirst w o) ≡ onward m' base (a + sizeAt w) (c + r) o
@@ -210,7 +202,7 @@ onward-first m m' base a c r w (some rs) h q =
     let b : List ℕ = take (sizeAt w) (drop 8 w) in
     let l : length b ≡ sizeAt w = length-take-le (sizeAt w) (drop 8 w) (rw length-drop (omega arith)) in
     let x : a + (length b + total rs) ≡ a + sizeAt w + total rs = omega arith in
-    let y : c + fresh m base (item (signalAt w) b ∷ rs) ≡ c + r + fresh m' base rs = omega (arith, q b rs l) in
+    let y : c + unmarked m base (item (signalAt w) b ∷ rs) ≡ c + r + unmarked m' base rs = omega (arith, q b rs l) in
     rw (x, y) refl
 
 -- a turn past a whole record of the signal s, of size z

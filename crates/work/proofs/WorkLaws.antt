@@ -2,7 +2,7 @@
 -- Assumes nothing.
 use Prim.Native.Nat.{ℕ, zero, suc, _+_, _-_, _*_, _≤_, _<_}
 use mathlib.Core.Path.{_≡_, refl, sym, _∙_}
-use mathlib.Core.Bool.{Bool, true, false, _&&_}
+use mathlib.Core.Bool.{Bool, true, false, and-false}
 use mathlib.Core.List.{List, [], _∷_}
 use mathlib.Core.Option.{Option, some, none}
 use native.Mathlib.Omega.{arith}
@@ -15,7 +15,7 @@ use Rattle.lists.specs.Choice.{pick, bind}
 use Rattle.lists.proofs.ChoiceLaws.{Where, where-some, where-pick, where-bind, both-hold}
 use Rattle.numbers.specs.LittleEndian.{unle}
 use Rattle.recording.specs.Work.{Item, item, signalAt, sizeAt, whole, itemsOf}
-unfoldable pub use Rattle.work.specs.Counting.{total}
+use Rattle.work.specs.Counting.{total}
 
 -- the parts of a whole record at the front
 pub record Front (n : ℕ) (w : List ℕ) : Type 0 where
@@ -35,10 +35,6 @@ pub front-whole : (n : ℕ) (w : List ℕ) → Front n w → whole n w ≡ true
 front-whole n w f =
     let b : sizeAt w ≤ length w - 8 = omega (arith, f .body) in
     rw (le-leb 8 (length w) (f .head), le-leb (sizeAt w) (length w - 8) b, lt-ltb (signalAt w) n (f .below)) refl
-
-and-false : (b : Bool) → b && false ≡ false
-and-false true = refl
-and-false false = refl
 
 -- where no whole record stands
 pub short-head : (n : ℕ) (w : List ℕ) → length w < 8 → whole n w ≡ false

@@ -29,8 +29,8 @@ unfoldable pub changed : (g n : ℕ) → List Item → ℕ
 changed g n is = sum (λ s. sign (length (gather s is))) g n
 
 -- of the 65,536 signals from base on, those not in the set m (of distances from base), how many have stream bytes
-unfoldable pub fresh : (m : ℕ → Bool) (base : ℕ) → List Item → ℕ
-fresh m base is = sum (λ i. pick (m i) 0 (sign (length (gather (base + i) is)))) 0 65536
+unfoldable pub unmarked : (m : ℕ → Bool) (base : ℕ) → List Item → ℕ
+unmarked m base is = sum (λ i. pick (m i) 0 (sign (length (gather (base + i) is)))) 0 65536
 
 -- what one pass finds of work that divides into records, and of work that does not
 abbrev pub scanned : (base : ℕ) → Option (List Item) → Scanned

@@ -8,7 +8,7 @@ ghost use Rattle.lists.specs.Choice.{isSome};
 ghost use Rattle.marks.specs.Marks.{markAt};
 ghost use Rattle.recording.specs.Work.{Item, item, itemsOf, itemsIn};
 ghost use Rattle.work.specs.Measure.{measured};
-ghost use Rattle.work.specs.Counting.{scanned, changed, fresh};
+ghost use Rattle.work.specs.Counting.{scanned, changed, unmarked};
 use marks::is_marked;
 use marks::mark;
 use numbers::little_endian::get_u32;
@@ -30,7 +30,7 @@ enum Scanned {
 fn count_record(map: &mut [u8], base: u64, signal: u32, size: usize) -> u64
     requires { ⌜ length (now map) ≡ 8192 ⌝ }
     ensures { λ r. ⌜ (length (now (map .exit)) ≡ 8192) × (r ≤ 1) × ((stream : List ℕ) (rest : List Item) → length stream ≡ size
-        → r + fresh (markAt (now (map .exit))) base rest ≡ fresh (markAt (now (map .entry))) base (item signal stream ∷ rest)) ⌝ }
+        → r + unmarked (markAt (now (map .exit))) base rest ≡ unmarked (markAt (now (map .entry))) base (item signal stream ∷ rest)) ⌝ }
 {
     if size == 0 {
         return 0;

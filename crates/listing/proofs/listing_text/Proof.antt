@@ -1,9 +1,10 @@
 -- By the length, and by the opener.
 use mathlib.Core.Path.{sym, _∙_}
 use borrow.Author.Tests.{not-true, not-false}
+use Rattle.walk.proofs.OpenLaws.{parse-closed}
 use Rattle.ascii.proofs.PutLaws.{puts-as, room-as}
 use Rattle.listing.specs.Written.{Taken}
-use Rattle.listing.proofs.ImageLaws.{listing-long, listing-closed, listing-opened, listing-room}
+use Rattle.listing.proofs.ImageLaws.{long-refused, other-refused, listing-opened, listing-room}
 use borrow.Author.Needs.{needs}
 use Rattle.listing.proofs.listing_text.Statement.{statement}
 use Rattle.listing.proofs.listing_text.Tie as tie
@@ -18,7 +19,7 @@ same-length : tie.Need-same-length
 same-length c = search needs
 
 returns : tie.Need-returns
-returns c = puts-as (listing-long (c .before .before .before .before .before .before .before .before .args .image .now) (c .before .before .before .before .before .if1 .taken)) (c .before .before .put-text .ensures)
+returns c = puts-as (sym (long-refused (c .before .before .before .before .before .before .before .before .args .image .now) (c .before .before .before .before .before .if1 .taken))) (c .before .before .put-text .ensures)
 
 open-requires : tie.Need-open-requires
 open-requires c κs = search needs
@@ -33,7 +34,7 @@ same-length-2 : tie.Need-same-length-2
 same-length-2 c = search needs
 
 returns-2 : tie.Need-returns-2
-returns-2 c = puts-as (listing-closed (c .before .before .before .before .before .before .before .before .before .before .args .image .now) (c .before .before .before .before .before .before .before .if1 .left) (sym (c .before .before .before .before .before .before .open .ensures) ∙ not-true _ (c .before .before .before .before .before .if2 .taken))) (c .before .before .put-text2 .ensures)
+returns-2 c = let b = c .before .before .before .before .before .before .before .before .before .before .args .image .now in puts-as (sym (other-refused b (parse-closed b (sym (c .before .before .before .before .before .before .open .ensures) ∙ not-true _ (c .before .before .before .before .before .if2 .taken))))) (c .before .before .put-text2 .ensures)
 
 image-text-requires : tie.Need-image-text-requires
 image-text-requires c κs = let s = c .before .before .before .before .before .before in let o : Taken (c .before .before .before .before .before .before .args .image .now) = (sym (c .before .before .open .ensures) ∙ not-false _ (c .before .if2 .left), c .before .before .before .if1 .left) in (o, room-as (sym (listing-opened (s .args .image .now) o)) (listing-room (s .args .image .now) (s .args .out .now) (λ j. c .before .before .before .before .before .shared-slice-known .given j .fits) (s .pre)))

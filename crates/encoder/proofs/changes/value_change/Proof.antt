@@ -52,7 +52,7 @@ use Rattle.change.specs.declared.notation.Value.{Value}
 use Rattle.change.specs.declared.Changed.{Changed}
 use Rattle.change.specs.Found.{givenOf as says-in, found, foundOf}
 use Rattle.plan.specs.declared.Outcome.{Outcome}
-use Rattle.records.proofs.Rows.{blank, vals, typed, made}
+use Rattle.records.proofs.Rows.{blank, vals, made}
 use Rattle.records.proofs.Shared.{LentShared, lends-shared, shared-back}
 use Rattle.encoder.proofs.ChangeLaws.{change-made}
 use Rattle.recording.proofs.SignalRecord as T

@@ -52,7 +52,7 @@ use Rattle.recording.specs.Memory.{memory, after}
 use Rattle.recording.specs.Step.{changeOf}
 use Rattle.change.specs.Found.{givenOf as says-in}
 use Rattle.plan.specs.declared.Outcome.{Outcome}
-use Rattle.records.proofs.Rows.{blank, vals, typed, made}
+use Rattle.records.proofs.Rows.{blank, vals, made}
 use Rattle.records.proofs.Shared.{LentShared, lends-shared, shared-back}
 use Rattle.recording.proofs.SignalRecord as T
 use Rattle.recording.proofs.SignalRecord.Laws as T′

@@ -52,7 +52,6 @@ use Rattle.recording.specs.Step.{changeOf}
 use Rattle.change.specs.declared.notation.Value.{Value}
 use Rattle.change.specs.Found.{givenOf as says-in}
 use Rattle.plan.specs.declared.Outcome.{Outcome}
-use Rattle.records.proofs.Rows.{typed}
 use Rattle.recording.proofs.SignalRecord as T
 use Rattle.recording.proofs.SignalRef as S
 use Rattle.recording.proofs.SignalRef.Laws as S′

@@ -47,7 +47,6 @@ use Rattle.recording.specs.Calls.{replyOf}
 use Rattle.recording.specs.Memory.{memory, after}
 use Rattle.recording.specs.Step.{startOf, fresh}
 use Rattle.recording.specs.Refusals.{unknownKind}
-use Rattle.records.proofs.Rows.{typed}
 use Rattle.records.proofs.Shared.{LentShared, lends-shared, shared-back}
 use Rattle.records.proofs.Again.{LentAgain, lends-again, comes-back}
 use Rattle.recording.proofs.SignalRecord as T

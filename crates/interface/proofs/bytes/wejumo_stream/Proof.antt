@@ -4,9 +4,8 @@ use mathlib.Core.Path.{_≡_, sym, _∙_}
 use mathlib.Core.Bool.{false}
 use native.Mathlib.Omega.{arith}
 use borrow.Author.Tests.{not-true, not-false}
-use Rattle.lists.proofs.SameLaws.{false-true}
 use Rattle.loaded.specs.Opener.{openOf}
-use Rattle.walk.proofs.OpenLaws.{stream-closed}
+use Rattle.walk.proofs.OpenLaws.{stream-closed, place-closed}
 use borrow.Author.Needs.{needs}
 use Rattle.interface.proofs.bytes.wejumo_stream.Statement.{statement}
 use Rattle.interface.proofs.bytes.wejumo_stream.Tie as tie
@@ -18,7 +17,7 @@ open-requires : tie.Need-open-requires
 open-requires c κs = search needs
 
 returns : tie.Need-returns
-returns c = let a = c .before .before .before .args in (stream-closed (a .image .now) (a .block) (a .signal) (closed c), omega arith, λ o t. false-true (sym (closed c) ∙ o))
+returns c = let a = c .before .before .before .args in (stream-closed (a .image .now) (a .block) (a .signal) (closed c), omega arith, place-closed (a .image .now) (a .block) (a .signal) (closed c))
 
 wejumo-opened-stream-requires : tie.Need-wejumo-opened-stream-requires
 wejumo-opened-stream-requires c κs = sym (c .before .open .ensures) ∙ not-false _ (c .if1 .left)

@@ -4,9 +4,8 @@ use Prim.Native.Nat.{_≤_}
 use mathlib.Core.Path.{sym, _∙_}
 use lib.ListN.{length}
 use native.Mathlib.Omega.{arith}
-use Rattle.lists.proofs.SameLaws.{false-true}
 use Rattle.walk.specs.Walk.{imageIn, BlockHere, PartHere}
-use Rattle.walk.proofs.PartLaws.{stream-of, stream-past, part-past}
+use Rattle.walk.proofs.PartLaws.{stream-of, stream-past, stream-place-past}
 use borrow.Author.Needs.{needs}
 use Rattle.interface.proofs.opened.wejumo_opened_stream.Statement.{statement}
 use Rattle.interface.proofs.opened.wejumo_opened_stream.Tie as tie
@@ -26,7 +25,7 @@ block-count-requires : tie.Need-block-count-requires
 block-count-requires c κs = search needs
 
 returns : tie.Need-returns
-returns c = let a = c .before .before .before .args in (stream-past (a .image .now) (a .block) (a .signal) (past c), omega arith, λ o t. false-true (sym (part-past (a .image .now) (a .block) (a .signal) (past c)) ∙ t))
+returns c = let a = c .before .before .before .args in (stream-past (a .image .now) (a .block) (a .signal) (past c), omega arith, stream-place-past (a .image .now) (a .block) (a .signal) (past c))
 
 block-start-requires : tie.Need-block-start-requires
 block-start-requires c κs = search needs
@@ -38,7 +37,7 @@ sub-t7 : tie.Need-sub-t7
 sub-t7 c = found (c .before) .ordered
 
 returns-2 : tie.Need-returns-2
-returns-2 c = let a = c .before .before .before .before .before .before .args in let w = found (c .before) in (w .stream ∙ sym (stream-of (a .image .now) (a .block) (a .signal)), omega (arith, w .ordered, w .inside), λ o t. w .begin t)
+returns-2 c = let a = c .before .before .before .before .before .before .args in let w = found (c .before) in (w .stream ∙ sym (stream-of (a .image .now) (a .block) (a .signal)), omega (arith, w .ordered, w .inside), w .begin)
 
 pub wejumo-opened-stream-spec : {M : Type 1} → statement M
 wejumo-opened-stream-spec =

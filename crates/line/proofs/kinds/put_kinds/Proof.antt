@@ -11,7 +11,7 @@ use lib.ListN.{length, drop}
 use lib.Seq.{sets}
 use Rattle.line.specs.Words.{wordsOf}
 use Rattle.line.specs.Line.{kindOf, kindsOf}
-use Rattle.line.specs.Command.{kindList, begun, putKind}
+use Rattle.line.specs.Command.{kindList, recordFor, putKind}
 use Rattle.line.proofs.KindLaws.{kinds-end, turn-at, list-some, list-none, put-length}
 use Rattle.signal.specs.declared.kind.SignalEncoding.{SignalEncoding}
 use Rattle.storage.specs.Storage.{recordsOf}
@@ -22,7 +22,7 @@ use Rattle.line.proofs.kinds.put_kinds.Tie as tie
 abbrev Inv-loop : tie.InvT-loop
 Inv-loop records₀ line n at₀ k₀ records at k =
     (ks : List SignalEncoding) × (at ≤ 256) × (k ≡ at + 3) × (length records ≡ length records₀) × (kindsOf (drop k (wordsOf line)) ≡ some ks)
-    × (at + length ks ≡ length (kindList line)) × (sets (recordsOf records) at (map begun ks) ≡ sets (recordsOf records₀) 0 (map begun (kindList line)))
+    × (at + length ks ≡ length (kindList line)) × (sets (recordsOf records) at (map recordFor ks) ≡ sets (recordsOf records₀) 0 (map recordFor (kindList line)))
 
 abbrev μ-loop : tie.MeasureT-loop
 μ-loop records₀ line n at₀ k₀ records at k = n - k
@@ -65,7 +65,7 @@ loop-again c =
     let t = turn-at (c .before .before .before .before .before .before .before .before .before .before .before .before .args .line .now) (l .k) (l .inv .0) (omega arith) (l .inv .4) in
     let put = c .before .before .put-kind .ensures in
     let e = put ∙ ap (λ (w : List ℕ). putKind (recordsOf (l .records)) (l .at) (kindOf w)) (c .before .before .before .word .ensures) ∙ ap (putKind (recordsOf (l .records)) (l .at)) (t .read) in
-    let kept = put-length (l .records) (c .before .before .put-kind .last .0) (l .at) (begun (t .kind)) e ∙ l .inv .3 in
+    let kept = put-length (l .records) (c .before .before .put-kind .last .0) (l .at) (recordFor (t .kind)) e ∙ l .inv .3 in
     let stored = rw (t .all) at (l .inv .6) in
     let few = all-kinds (c .before .before .before .before .before .before .before) .0 in
     (t .rest, omega arith, omega arith, kept, rw (add-one (l .k)) (t .more), omega (arith, ap length (t .all)), rw (e, add-one (l .at)) stored)

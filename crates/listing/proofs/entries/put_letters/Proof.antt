@@ -3,10 +3,10 @@ use Prim.Native.Nat.{_-_, _≤_}
 use mathlib.Core.List.{map}
 use native.Mathlib.Omega.{arith}
 use native.Mathlib.Numerals.{add-one}
-use lib.ListN.{length, drop, length-drop}
+use lib.ListN.{length, drop, length-drop, length-map}
 use Rattle.ascii.proofs.PutLaws.{Left, left-all, left-as, left-step, left-end, puts-one}
 use Rattle.listing.specs.Listing.{letterOf}
-use Rattle.listing.proofs.EntryLaws.{symbol-at, letters-more, letters-none, letters-length}
+use Rattle.listing.proofs.EntryLaws.{symbol-at, letters-more, letters-none}
 use Rattle.listing.proofs.entries.put_letters.Statement.{statement}
 use Rattle.listing.proofs.entries.put_letters.Tie as tie
 
@@ -26,10 +26,10 @@ letter-requires : tie.Need-letter-requires Inv-loop μ-loop
 letter-requires c κs = let s = c .before .before .before .before .before in symbol-at (s .args .symbols .now) (c .before .before .loop .i) (s .pre .0) (omega arith)
 
 slice-write-out : tie.Need-slice-write-out Inv-loop μ-loop
-slice-write-out c = let l = c .before .before .before .loop in let s = c .before .before .before .before .before .before in let v = s .args .symbols .now in omega (arith, l .inv .1 .place, l .inv .1 .size, s .pre .1 .inside, letters-length v, letters-length (drop (l .i) v), length-drop (l .i) v)
+slice-write-out c = let l = c .before .before .before .loop in let s = c .before .before .before .before .before .before in let v = s .args .symbols .now in omega (arith, l .inv .1 .place, l .inv .1 .size, s .pre .1 .inside, length-map v letterOf, length-map (drop (l .i) v) letterOf, length-drop (l .i) v)
 
 add-p : tie.Need-add-p Inv-loop μ-loop
-add-p c = let l = c .before .before .before .loop in let s = c .before .before .before .before .before .before in let v = s .args .symbols .now in omega (arith, l .inv .1 .place, l .inv .1 .size, s .pre .1 .inside, letters-length v, letters-length (drop (l .i) v), length-drop (l .i) v)
+add-p c = let l = c .before .before .before .loop in let s = c .before .before .before .before .before .before in let v = s .args .symbols .now in omega (arith, l .inv .1 .place, l .inv .1 .size, s .pre .1 .inside, length-map v letterOf, length-map (drop (l .i) v) letterOf, length-drop (l .i) v)
 
 add-i : tie.Need-add-i Inv-loop μ-loop
 add-i c = omega arith

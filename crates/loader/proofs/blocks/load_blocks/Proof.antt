@@ -8,7 +8,7 @@ use Rattle.loaded.specs.Opener.{blockAt}
 use Rattle.walk.specs.Walk.{imageIn, BlockHere}
 use Rattle.loader.specs.Blocks.{baseOf}
 use Rattle.loader.proofs.BlockLaws.{base-small}
-use Rattle.loader.proofs.BlocksLaws.{Passing, passing-first, passing-sizes, block-here, next-room, next-class, next-times, passing-on, passed}
+use Rattle.loader.proofs.BlocksLaws.{Passing, passing-first, passing-sizes, next-room, next-class, next-times, passing-on, passed}
 use borrow.Author.Needs.{needs}
 use Rattle.loader.proofs.blocks.load_blocks.Statement.{statement}
 use Rattle.loader.proofs.blocks.load_blocks.Tie as tie
@@ -26,12 +26,7 @@ below t = omega (arith, t .loop-test .taken, t .before .before .before .before .
 
 -- it begins there
 found : (t : tie.In-loop Inv-loop μ-loop) → BlockHere (t .before .loop .number) (t .before .loop .at) (t .before .before .before .before .before .before .before .before .args .image .now)
-found t =
-    let l = t .before .loop in
-    let f = t .before .before .before in
-    let a = f .before .before .before .before .before .args in
-    block-here (a .image .now) (a .signal) (classNumber (a .class)) (a .write) (a .index .now) (a .bytes .now) (l .number) (l .at) (l .times) (l .state) (l .index) (l .bytes)
-    (λ j. f .before .before .before .before .shared-slice-known .given j .fits) (f .before .before .before .before .before .pre .0) (l .inv) (below t)
+found t = record { exists = below t; place = t .before .loop .inv .place }
 
 block-count-requires : tie.Need-block-count-requires Inv-loop μ-loop
 block-count-requires c κs = search needs

@@ -3,7 +3,7 @@ use Prim.Native.Nat.{_-_, _<_}
 use native.Mathlib.Omega.{arith}
 use lib.ListN.{length}
 use Rattle.walk.specs.Walk.{imageIn, BlockHere}
-use Rattle.loader.proofs.MeasureLaws.{Measuring, measuring-first, block-there, stream-there, measuring-on, measured}
+use Rattle.loader.proofs.MeasureLaws.{Measuring, measuring-first, stream-there, measuring-on, measured}
 use borrow.Author.Needs.{needs}
 use Rattle.loader.proofs.measure.measure_blocks.Statement.{statement}
 use Rattle.loader.proofs.measure.measure_blocks.Tie as tie
@@ -20,10 +20,7 @@ below t = omega (arith, t .loop-test .taken, t .before .before .before .block-co
 
 -- it begins there
 found : (t : tie.In-loop Inv-loop μ-loop) → BlockHere (t .before .loop .number) (t .before .loop .at) (t .before .before .before .before .before .args .image .now)
-found t =
-    let l = t .before .loop in
-    let s = t .before .before .before .before in
-    block-there (s .before .args .image .now) (s .before .args .signal) (l .number) (l .at) (l .bytes) (l .top) (λ j. s .shared-slice-known .given j .fits) (s .before .pre) (l .inv) (below t)
+found t = record { exists = below t; place = t .before .loop .inv .place }
 
 block-count-requires : tie.Need-block-count-requires Inv-loop μ-loop
 block-count-requires c κs = search needs

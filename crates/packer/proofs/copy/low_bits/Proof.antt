@@ -5,8 +5,8 @@ use native.Mathlib.Nat.{one-mul}
 use native.Mathlib.Omega.{arith}
 use lib.Pow.{pow-pos, shl-exact}
 use borrow.Author.Needs.{needs}
-use Rattle.packer.proofs.low_bits.Statement.{statement}
-use Rattle.packer.proofs.low_bits.Tie as tie
+use Rattle.packer.proofs.copy.low_bits.Statement.{statement}
+use Rattle.packer.proofs.copy.low_bits.Tie as tie
 
 shifted : (c : tie.Start) → 1 * 2 ^ c .args .count % 256 ≡ 2 ^ c .args .count
 shifted c = shl-exact {a = 1} 1 (c .args .count) 8 (omega arith) (omega arith) ∙ one-mul _

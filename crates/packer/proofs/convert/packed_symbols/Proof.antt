@@ -9,8 +9,8 @@ use Rattle.packer.specs.Number.{numberIn}
 use Rattle.packer.specs.declared.Notation.the-variants.{Packed}
 use Rattle.packer.proofs.PackLaws.{Taken, taken-none, taken-more, taken-small, taken-all}
 use Rattle.packer.proofs.NotationLaws.{packed-digit}
-use Rattle.packer.proofs.packed_symbols.Statement.{statement}
-use Rattle.packer.proofs.packed_symbols.Tie as tie
+use Rattle.packer.proofs.convert.packed_symbols.Statement.{statement}
+use Rattle.packer.proofs.convert.packed_symbols.Tie as tie
 
 abbrev Inv-loop : tie.InvT-loop
 Inv-loop src from width after count states working₀ i₀ working i =

@@ -1,8 +1,8 @@
 -- By the class, the laws of its letters; in class Nine the table itself.
 use borrow.Author.Needs.{needs}
 use Rattle.packer.proofs.LetterLaws.{two-letter, four-letter}
-use Rattle.packer.proofs.letter_symbol.Statement.{statement}
-use Rattle.packer.proofs.letter_symbol.Tie as tie
+use Rattle.packer.proofs.letters.letter_symbol.Statement.{statement}
+use Rattle.packer.proofs.letters.letter_symbol.Tie as tie
 
 enum-told : tie.Need-enum-told
 enum-told c = search needs

@@ -11,8 +11,8 @@ use Rattle.packer.specs.Number.{numberIn}
 use Rattle.packer.specs.declared.Notation.the-variants.{Ascii}
 use Rattle.packer.proofs.PackLaws.{Taken, taken-none, taken-more, taken-small, taken-all}
 use Rattle.packer.proofs.NotationLaws.{text-digit}
-use Rattle.packer.proofs.text_symbols.Statement.{statement}
-use Rattle.packer.proofs.text_symbols.Tie as tie
+use Rattle.packer.proofs.letters.text_symbols.Statement.{statement}
+use Rattle.packer.proofs.letters.text_symbols.Tie as tie
 
 abbrev Inv-loop : tie.InvT-loop
 Inv-loop text width after count states working₀ i₀ working i =

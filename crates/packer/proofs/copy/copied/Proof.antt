@@ -11,8 +11,8 @@ use Rattle.value.specs.Class.{classNumber, bitsOf}
 use Rattle.packed.specs.Packed.{packedLength}
 use Rattle.packer.proofs.CopyLaws.{copy-full, copy-part}
 use borrow.Author.Needs.{needs}
-use Rattle.packer.proofs.copied.Statement.{statement}
-use Rattle.packer.proofs.copied.Tie as tie
+use Rattle.packer.proofs.copy.copied.Statement.{statement}
+use Rattle.packer.proofs.copy.copied.Tie as tie
 
 -- the first byte is there, and has bits above the symbols
 part : (c : tie.Else1) → let a = c .before .before .before .before .before .args in

@@ -4,8 +4,8 @@ use Rattle.value.specs.Class.{classNumber}
 use Rattle.packer.specs.Number.{perByte, numberIn}
 use Rattle.packer.specs.declared.Notation.the-variants.{Packed}
 use Rattle.packer.proofs.PackLaws.{bytes-few, byte-room, Written, written-none, written-more, written-all}
-use Rattle.packer.proofs.packed_bytes.Statement.{statement}
-use Rattle.packer.proofs.packed_bytes.Tie as tie
+use Rattle.packer.proofs.convert.packed_bytes.Statement.{statement}
+use Rattle.packer.proofs.convert.packed_bytes.Tie as tie
 
 abbrev Inv-loop : tie.InvT-loop
 Inv-loop out₀ at src from width whole states o₀ left₀ out o left =

@@ -7,8 +7,8 @@ use lib.ListN.{length, getD}
 use Rattle.packed.specs.Packed.{numberOf}
 use Rattle.packed.proofs.PackedLaws.{byte-at}
 use Rattle.packer.proofs.PackLaws.{Written, written-none, written-more, written-all}
-use Rattle.packer.proofs.copied_bytes.Statement.{statement}
-use Rattle.packer.proofs.copied_bytes.Tie as tie
+use Rattle.packer.proofs.copy.copied_bytes.Statement.{statement}
+use Rattle.packer.proofs.copy.copied_bytes.Tie as tie
 
 abbrev Inv-loop : tie.InvT-loop
 Inv-loop out₀ at src count o₀ left₀ out o left = Written (numberOf 8 src) out₀ at count out o left

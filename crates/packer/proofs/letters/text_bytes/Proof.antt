@@ -5,8 +5,8 @@ use Rattle.value.specs.Class.{classNumber}
 use Rattle.packer.specs.Number.{perByte, numberIn}
 use Rattle.packer.specs.declared.Notation.the-variants.{Ascii}
 use Rattle.packer.proofs.PackLaws.{byte-room, Written, written-none, written-more, written-all}
-use Rattle.packer.proofs.text_bytes.Statement.{statement}
-use Rattle.packer.proofs.text_bytes.Tie as tie
+use Rattle.packer.proofs.letters.text_bytes.Statement.{statement}
+use Rattle.packer.proofs.letters.text_bytes.Tie as tie
 
 abbrev Inv-loop : tie.InvT-loop
 Inv-loop out₀ at text width whole states o₀ left₀ out o left =
