@@ -26,6 +26,14 @@ use Rattle.codec.proofs.LayoutLaws.{lengths-of, size-parts, count-parts
 use Rattle.codec.proofs.StreamLaws.{stream-written}
 use Rattle.codec.proofs.WrittenOut.{count-streamed, blocks-written}
 
+-- ---- kinds
+
+-- also past the last
+pub known-at : (ks : List SignalEncoding) (g : ℕ) → KnownKinds ks → knownKind (getD ks g Absent) ≡ true
+known-at [] g h = refl
+known-at (k ∷ ks) zero h = h .0
+known-at (k ∷ ks) (suc g) h = known-at ks g (h .1)
+
 -- ---- lists of numbers
 
 uints-fit : (w n : ℕ) (l : List ℕ) → length l ≡ n → EachBelow (256 ^ w) l → repeat n (uint w) .Ok l

@@ -19,7 +19,7 @@ use Rattle.image.specs.Head.{headSize, imageLimit}
 use Rattle.image.specs.Image.{Image, image, blocksBytes, imageBytes}
 use Rattle.codec.specs.Valid.{KnownKinds, BlocksFit, Valid}
 use Rattle.codec.specs.Parse.{parse}
-use Rattle.codec.proofs.ImageFits.{image-size}
+use Rattle.codec.proofs.ImageFits.{image-size, known-at}
 use Rattle.codec.proofs.Trip.{parse-is}
 use Rattle.recording.specs.declared.SignalRecord.{SignalRecord}
 use Rattle.recording.specs.Calls.{Slice, Fitting}
@@ -31,7 +31,7 @@ use Rattle.model.proofs.Rebuild.{imageCalls}
 use Rattle.follow.specs.Start.{Startable}
 use Rattle.follow.proofs.ChangeLaws.{mostBytes}
 use Rattle.follow.proofs.Start.{start-is}
-use Rattle.follow.proofs.RebuiltFits.{image-fit, kinds-at}
+use Rattle.follow.proofs.RebuiltFits.{image-fit}
 use Rattle.follow.proofs.RebuiltCount.{image-count}
 use Rattle.follow.proofs.Left.{left}
 use Rattle.demand.specs.Demand3.{RecordsFit, Lent, Leaves}
@@ -107,7 +107,7 @@ module _ (x : Image) (v : Valid x) where
   }
 
   fitting : Fitting (imageCalls (x .kinds) (x .blocks))
-  fitting = image-fit (x .kinds) (v .signals) (kinds-at (x .kinds) (v .kinds)) (x .limit) (x .blocks) (v .blocks)
+  fitting = image-fit (x .kinds) (v .signals) (λ i h. known-at (x .kinds) i (v .kinds)) (x .limit) (x .blocks) (v .blocks)
 
   lent : Lent lentRoom
   lent =

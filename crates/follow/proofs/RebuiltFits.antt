@@ -20,7 +20,7 @@ use Rattle.signal.specs.Content.{Content, happened, symbols, bits, ContentFits}
 use Rattle.signal.proofs.SayLaws.{sayOf}
 use Rattle.stream.specs.Entries.{Entry}
 use Rattle.image.specs.Block.{Part, Block}
-use Rattle.codec.specs.Valid.{EachBelow, KnownKinds, EntriesFit, OptionFits, PartsFit, topsAfter, firstIndex, BlocksFit}
+use Rattle.codec.specs.Valid.{EachBelow, EntriesFit, OptionFits, PartsFit, topsAfter, firstIndex, BlocksFit}
 use Rattle.codec.proofs.Growth.{parts-each, parts-count}
 use Rattle.recording.specs.Calls.{Call, time, ValueFits, Fitting}
 use Rattle.model.proofs.Rebuild.{bare, bares, front, restOf, callsOf, roundCalls, blockCalls, firstCalls, laterCalls, restCalls, imageCalls, All, all-front, all-behind}
@@ -142,8 +142,3 @@ module _ (ks : List SignalEncoding) where
         fit-append (firstCalls ks (s .times) (bares (s .parts))) (restCalls ks ss)
         (first-fit (s .times) (bares (s .parts)) (v .0 .small) (block-say (length (s .times)) 0 [] (s .parts) (v .0 .parts)))
         (rest-fit limit (some (lastOr 0 (s .times))) (topsAfter [] (s .parts)) ss (v .1))
-
-pub kinds-at : (ks : List SignalEncoding) → KnownKinds ks → (i : ℕ) → i < length ks → knownKind (getD ks i Absent) ≡ true
-kinds-at [] k i h = absurd (omega arith)
-kinds-at (x ∷ ks) k zero h = k .0
-kinds-at (x ∷ ks) k (suc i) h = kinds-at ks (k .1) i (omega arith)

@@ -21,18 +21,18 @@ use Rattle.image.proofs.SizeLaws.{block-size}
 use Rattle.codec.specs.Valid.{BlocksFit, Valid}
 use Rattle.codec.specs.Parse.{parse}
 use Rattle.codec.proofs.Growth.{parts-count}
-use Rattle.codec.proofs.ImageFits.{image-size}
+use Rattle.codec.proofs.ImageFits.{image-size, known-at}
 use Rattle.codec.proofs.Trip.{parse-is}
 use Rattle.loaded.specs.Opener.{kindAt, streamIn}
 use Rattle.loaded.specs.Loading.{joinTimes, tableFrom, loads, signalClass}
 use Rattle.loaded.specs.EntryBytes.{entriesBytes}
-use Rattle.walk.proofs.HeadLaws.{known-at}
+use Rattle.loaded.proofs.TableLaws.{joined-length}
 use Rattle.entry.specs.Length.{entryLength}
 use Rattle.entry.proofs.EntriesLaws.{entries-length}
 use Rattle.loader.specs.Least.{leastLength, streamsLength}
 use Rattle.loader.proofs.LeastLaws.{least-any}
 use Rattle.loader.proofs.BlockLaws.{stream-data}
-use Rattle.loader.proofs.KeptLaws.{joined-length, EachKept, class-most, each-kept, kept-fits, kept-least}
+use Rattle.loader.proofs.KeptLaws.{EachKept, class-most, each-kept, kept-fits, kept-least}
 use Rattle.listing.specs.Listing.{headLine, timeLines, signalLine, entryLine, entryLines, signalLines, signalsFrom, imageText, textOf, inputLimit, listingOf, listingLimit}
 use Rattle.listing.proofs.LengthLaws.{head-line, time-lines, signal-line, entry-line, entry-most}
 

@@ -1,29 +1,29 @@
 -- The kept entries of a signal of a valid image: their contents fit its kind, their classes its class, their indices the combined table.
 -- And they are no more than the signal's streams have room for.
 -- Assumes nothing.
-use Prim.Native.Nat.{ℕ, zero, suc, _+_, _-_, _*_, _≤_, _<_}
-use mathlib.Core.Path.{_≡_, refl, ap, _∙_}
+use Prim.Native.Nat.{ℕ, suc, _+_, _-_, _*_, _≤_, _<_}
+use mathlib.Core.Path.{_≡_, refl, ap}
 use mathlib.Core.Bool.{Bool, true, false}
 use mathlib.Core.List.{List, [], _∷_, _++_}
 use mathlib.Core.Option.{Option, some, none}
 use native.Mathlib.Nat.{mul-le-mul}
 use native.Mathlib.Omega.{arith}
-use lib.Dec.{eqb}
-use lib.ListN.{length, getD, drop, length-append, length-drop}
+use lib.ListN.{length, getD, length-append}
 use Rattle.lists.specs.Choice.{pick}
 use Rattle.lists.specs.Last.{lastOr}
 use Rattle.value.specs.Class.{classOfAll}
 use Rattle.signal.specs.declared.kind.SignalEncoding.{SignalEncoding}
-use Rattle.signal.specs.declared.kind.SignalEncoding.the-variants.{BitVector, Real, Absent}
-use Rattle.signal.specs.Kind.{topLimit}
+use Rattle.signal.specs.declared.kind.SignalEncoding.the-variants.{Absent}
 use Rattle.signal.specs.Content.{ContentFits, symbolsOf}
 use Rattle.stream.specs.Entries.{Entry, orNine}
 use Rattle.image.specs.Block.{Part, Block}
 use Rattle.image.specs.Image.{Image}
 use Rattle.codec.specs.Valid.{EntriesFit, OptionFits, topsAfter, firstIndex, BlocksFit, Valid}
+use Rattle.codec.proofs.ImageFits.{top-small}
 use Rattle.codec.proofs.Growth.{parts-each}
 use Rattle.loaded.specs.Opener.{kindAt, partAt, streamIn}
-use Rattle.loaded.specs.Loading.{overlap, joinTimes, tableFrom, moved, repeatsLast, pushed, Load, load, entriesIn, topIn, loadBlock, loadFrom, loads, signalClass}
+use Rattle.loaded.specs.Loading.{overlap, tableFrom, moved, repeatsLast, pushed, Load, load, entriesIn, topIn, loadBlock, loadFrom, loads, signalClass}
+use Rattle.loaded.proofs.TableLaws.{overlap-both, joined-length}
 use Rattle.entry.proofs.EntriesLaws.{EachFits}
 use Rattle.walk.proofs.PartLaws.{entries-fit}
 use Rattle.loader.specs.Least.{leastLength, streamsLength}
@@ -31,20 +31,6 @@ use Rattle.loader.proofs.BlocksLaws.{class-grows}
 use Rattle.loader.proofs.LeastLaws.{part-least}
 
 -- ---- the combined table
-
-overlap-both : (l ts : List ℕ) → (overlap l ts ≤ length l) × (overlap l ts ≤ length ts)
-overlap-both [] ts = (omega arith, omega arith)
-overlap-both (x ∷ l) [] = (omega arith, omega arith)
-overlap-both (x ∷ l) (t ∷ ts) = by (eqb t (lastOr x l))
-  where
-    by : (b : Bool) → (pick b 1 0 ≤ suc (length l)) × (pick b 1 0 ≤ suc (length ts))
-    by true = (omega arith, omega arith)
-    by false = (omega arith, omega arith)
-
-pub joined-length : (l ts : List ℕ) → length (joinTimes l ts) ≡ length l - overlap l ts + length ts
-joined-length l ts =
-    let o = overlap-both l ts in
-    length-append l (drop (overlap l ts) ts) ∙ omega (arith, length-drop (overlap l ts) ts, o .0, o .1)
 
 times-grow : (g : ℕ) (l : Load) (bs : List (Block (List Entry))) → length (l .times) ≤ length (loadFrom g l bs .times)
 unfolding loadFrom
@@ -114,13 +100,7 @@ module _ (limit : ℕ) (ks : List SignalEncoding) (g : ℕ) where
 
 top-two : (k : SignalEncoding) (n i before : ℕ) (p : Option (Part (List Entry))) → OptionFits k n i before p → topIn p ≤ 2
 top-two k n i before none f = omega arith
-top-two k n i before (some p) f = by k (f .most)
-  where
-    by : (k : SignalEncoding) → p .top ≤ topLimit k → p .top ≤ 2
-    by (BitVector zero) h = omega arith
-    by (BitVector (suc w)) h = h
-    by Real h = omega arith
-    by Absent h = omega arith
+top-two k n i before (some p) f = omega (arith, f .most, top-small k)
 
 class-two : (limit : ℕ) (ks : List SignalEncoding) (end : Option ℕ) (tops : List ℕ) (g : ℕ) (l : Load) (bs : List (Block (List Entry)))
     → BlocksFit limit ks end tops bs → l .class ≤ 2 → loadFrom g l bs .class ≤ 2

@@ -19,6 +19,7 @@ use Rattle.signal.specs.Kind.{absent, knownKind}
 use Rattle.stream.specs.Entries.{Entry, orNine}
 use Rattle.image.specs.Head.{imageLimit}
 use Rattle.image.specs.Image.{Image}
+use Rattle.codec.proofs.ImageFits.{known-at}
 use Rattle.loaded.specs.Opener.{kindAt}
 use Rattle.loaded.specs.Loading.{Load, loads, signalClass}
 use Rattle.loaded.specs.EntryBytes.{entriesBytes}
@@ -26,7 +27,7 @@ use Rattle.loaded.specs.Reader.{unknownSignal, refuse, loaded, loadAfter, index
 use Rattle.entry.specs.Length.{classByte, wideLength, entryLength}
 use Rattle.entry.proofs.EntriesLaws.{entries-length}
 use Rattle.walk.specs.Walk.{Opened, imageIn}
-use Rattle.walk.proofs.HeadLaws.{known-at, means}
+use Rattle.walk.proofs.HeadLaws.{means}
 use Rattle.loader.specs.Output.{Output, Room, holding, outputAs}
 use Rattle.loader.specs.Sizes.{tooShort, classAnswered}
 use Rattle.loader.specs.Least.{leastLength, streamsLength}

@@ -19,8 +19,9 @@ use Rattle.codec.specs.Valid.{RisingFrom, Rising}
 use Rattle.recording.specs.Calls.{Call, time, change, finish, Way, above, equal, below, wayOf, counted}
 use Rattle.history.specs.History.{History, noHistory, tellTime, tellChange, tell, tellAll}
 use Rattle.loaded.specs.Loading.{overlap, joinTimes}
+use Rattle.loaded.proofs.TableLaws.{joined-length}
 use Rattle.model.specs.Model.{Chunk, chunk, noChunk, shifts, join, joined, Model, model, noModel, cut, timed, modelTime, modelChange, close, noTime, modelStep, told}
-use Rattle.model.proofs.JoinLaws.{shifts-append, joined-append, overlap-more, join-time, join-length, join-last, overlap-cut}
+use Rattle.model.proofs.JoinLaws.{shifts-append, joined-append, overlap-more, join-time, join-last, overlap-cut}
 
 -- all that is recorded, joined
 abbrev pub all : Model → Chunk
@@ -46,7 +47,7 @@ add-change : (l b : Chunk) (g : ℕ) (a : Content) (c : ℕ) → 0 < length (b .
 unfolding join shifts
 add-change l b g a c h =
     let n : ℕ = length (l .times) - overlap (l .times) (b .times) in
-    let e : length (joinTimes (l .times) (b .times)) - 1 ≡ n + (length (b .times) - 1) = omega (arith, join-length (l .times) (b .times) h) in
+    let e : length (joinTimes (l .times) (b .times)) - 1 ≡ n + (length (b .times) - 1) = omega (arith, joined-length (l .times) (b .times)) in
     rw (shifts-append n (b .changes), e, append-assoc) refl
 
 add-cut : (l b : Chunk) (ts : List ℕ) → 0 < length (b .times)
@@ -54,7 +55,7 @@ add-cut : (l b : Chunk) (ts : List ℕ) → 0 < length (b .times)
 unfolding join shifts
 add-cut l b ts h =
     let j : List ℕ = joinTimes (l .times) (b .times) in
-    let k : 0 < length j = omega (arith, join-length (l .times) (b .times) h) in
+    let k : 0 < length j = omega (arith, joined-length (l .times) (b .times)) in
     let q = join-last 0 (l .times) (b .times) h in
     let z : overlap j (lastOr 0 (b .times) ∷ ts) ≡ 1 = rw (← q) (overlap-cut j ts k) in
     rw (z, append-nil) refl
@@ -95,7 +96,7 @@ way-same p h t s = go (ℕ-discrete (length (p .now .times)) 0)
         let l : Chunk = joined noChunk (p .blocks) in
         let k : 0 < length (p .now .times) = omega arith in
         let j : joinTimes (l .times) (p .now .times) ≡ h .times = sym (join-times l (p .now)) ∙ ap (λ (b : Chunk). b .times) (s .held) in
-        let m = join-length (l .times) (p .now .times) k in
+        let m = joined-length (l .times) (p .now .times) in
         let q : 0 < length (joinTimes (l .times) (p .now .times)) = omega arith in
         way-last (p .now .times) (joinTimes (l .times) (p .now .times)) t k q (sym (join-last 0 (l .times) (p .now .times) k)) ∙ ap (λ (b : List ℕ). wayOf b t) j
 

@@ -1,20 +1,20 @@
--- Joining tables and blocks: a time more, the number of joined times, their end.
+-- Joining tables and blocks: a time more, and the end of the joined times.
 -- Assumes nothing.
-use Prim.Native.Nat.{ℕ, _+_, _-_, _≤_, _<_}
+use Prim.Native.Nat.{ℕ, _+_, _-_, _<_}
 use mathlib.Core.Path.{_≡_, refl, sym, ap, _∙_}
 use mathlib.Core.Bool.{Bool, true, false}
 use mathlib.Core.List.{List, [], _∷_, _++_, append-assoc}
 use native.Mathlib.Omega.{arith}
 use borrow.Author.Tests.{eq-eqb, eqb-true}
-use lib.ListN.{length, drop, length-append, length-drop}
+use lib.ListN.{length, drop}
 use lib.Seq.{drop-append-le}
 use lib.Dec.{eqb}
 use Rattle.lists.specs.Choice.{pick}
 use Rattle.lists.specs.Last.{lastOr}
-use Rattle.lists.proofs.ChoiceLaws.{pick-one}
 use Rattle.lists.proofs.LastLaws.{last-append}
 use Rattle.history.specs.History.{Change}
 use Rattle.loaded.specs.Loading.{overlap, joinTimes}
+use Rattle.loaded.proofs.TableLaws.{overlap-both}
 use Rattle.model.specs.Model.{Chunk, shift, shifts, join, joined}
 
 pub shifts-append : (n : ℕ) (a b : List Change) → shifts n (a ++ b) ≡ shifts n a ++ shifts n b
@@ -33,22 +33,9 @@ overlap-more [] ts us h = refl
 overlap-more (x ∷ l) [] us h = absurd (omega arith)
 overlap-more (x ∷ l) (t ∷ ts) us h = refl
 
-overlap-le : (l ts : List ℕ) → overlap l ts ≤ 1
-overlap-le [] ts = omega arith
-overlap-le (x ∷ l) [] = omega arith
-overlap-le (x ∷ l) (t ∷ ts) = pick-one (eqb t (lastOr x l))
-
-overlap-left : (l ts : List ℕ) → overlap l ts ≤ length l
-overlap-left [] ts = omega arith
-overlap-left (x ∷ l) ts = let h = overlap-le (x ∷ l) ts in omega arith
-
 pub join-time : (l ts : List ℕ) (t : ℕ) → 0 < length ts → joinTimes l (ts ++ t ∷ []) ≡ joinTimes l ts ++ t ∷ []
 join-time l ts t h =
-    let k : overlap l ts ≤ length ts = omega (arith, overlap-le l ts) in
-    rw (overlap-more l ts (t ∷ []) h, drop-append-le (overlap l ts) ts (t ∷ []) k, append-assoc) refl
-
-pub join-length : (l ts : List ℕ) → 0 < length ts → length (joinTimes l ts) ≡ length l - overlap l ts + length ts
-join-length l ts h = length-append l (drop (overlap l ts) ts) ∙ rw length-drop (omega (arith, overlap-le l ts, overlap-left l ts))
+    rw (overlap-more l ts (t ∷ []) h, drop-append-le (overlap l ts) ts (t ∷ []) (overlap-both l ts .1), append-assoc) refl
 
 -- the end of the joined times is the end of the second table
 pub join-last : (d : ℕ) (l ts : List ℕ) → 0 < length ts → lastOr d (joinTimes l ts) ≡ lastOr d ts

@@ -22,10 +22,9 @@ use Rattle.image.specs.Block.{les}
 use Rattle.image.specs.Head.{kindNumber, headSize, headBytes, imageLimit}
 use Rattle.image.specs.Image.{Image, blocksBytes, imageBytes}
 use Rattle.codec.specs.ImageForm.{headOf}
-use Rattle.codec.specs.Valid.{KnownKinds}
 use Rattle.codec.specs.Parse.{parse}
 use Rattle.codec.proofs.Trip.{Means, parse-is}
-use Rattle.codec.proofs.ImageFits.{head-size, image-size, blocks-count}
+use Rattle.codec.proofs.ImageFits.{head-size, image-size, blocks-count, known-at}
 use Rattle.loaded.specs.Opener.{kindAt}
 use Rattle.walk.specs.Walk.{Opened, imageFrom, imageIn}
 use Rattle.walk.proofs.StandLaws.{Stands, stands-front, stands-back, Number, stands-number, stands-nth}
@@ -84,11 +83,6 @@ pub head-in : (b : List ℕ) → Bytes b → Opened b → HeadAt b (imageIn b)
 head-in b y o = head-at b (imageIn b) (means b y o)
 
 -- ---- kinds
-
-pub known-at : (ks : List SignalEncoding) (g : ℕ) → KnownKinds ks → knownKind (getD ks g Absent) ≡ true
-known-at [] g h = refl
-known-at (k ∷ ks) zero h = h .0
-known-at (k ∷ ks) (suc g) h = known-at ks g (h .1)
 
 number-small : (k : SignalEncoding) → knownKind k ≡ true → kindNumber k < 4294967296
 number-small (BitVector w) h = omega (arith, leb-true w 65536 h)
