@@ -17,10 +17,9 @@ use Rattle.stream.specs.Entries.{Entry}
 use Rattle.image.specs.Block.{Block}
 use Rattle.form.specs.Form.{Form, andThen, gotIf, ifYes, pair, repeat, uint}
 use Rattle.codec.specs.Layout.{Laid, ill, laid, Layout, layout, Front, fromZero, layoutFrom, layoutForm}
-use Rattle.codec.specs.Valid.{Filled, filled?}
 use Rattle.reading.specs.Decided.{isYes, uints}
 use Rattle.reading.proofs.PlaceLaws.{uint-there, uint-short, uints-at, uints-short}
-use Rattle.blocks.specs.Blocks.{sizeIn, timesIn, signalsIn}
+use Rattle.blocks.specs.Blocks.{timesFit?, sizeIn, timesIn, signalsIn}
 
 -- ---- one after the other
 
@@ -99,16 +98,16 @@ abbrev pub laidBody : (times : ℕ) → (body : Layout → List ℕ → BlockGot
 laidBody n body r ill = bad
 laidBody n body r (laid a l) = pick (eqb a 0) (body (layout n l) r) bad
 
-module _ (limit follow n : ℕ) (body : Layout → List ℕ → BlockGot) (r : List ℕ) where
-  by-filled : (D : Dec (Filled limit n follow)) (l : List (Option ℕ)) → andThen (gotIf (ifYes D (layout n l)) r) body ≡ pick (isYes D) (body (layout n l) r) bad
-  by-filled (yes p) l = refl
-  by-filled (no p) l = refl
+module _ (limit n : ℕ) (body : Layout → List ℕ → BlockGot) (r : List ℕ) where
+  by-times : (D : Dec ((1 ≤ n) × (n ≤ limit))) (l : List (Option ℕ)) → andThen (gotIf (ifYes D (layout n l)) r) body ≡ pick (isYes D) (body (layout n l) r) bad
+  by-times (yes p) l = refl
+  by-times (no p) l = refl
 
   pub by-layout : (a b : Bool) (L : Laid)
-      → andThen (andThen (gotIf (pick a (pick b (fromZero n L) none) none) r) (λ l q. gotIf (ifYes (filled? limit (l .count) follow) l) q)) body
-      ≡ pick a (pick b (pick (isYes (filled? limit n follow)) (laidBody n body r L) bad) bad) bad
+      → andThen (andThen (gotIf (pick a (pick b (fromZero n L) none) none) r) (λ l q. gotIf (ifYes (timesFit? limit (l .count)) l) q)) body
+      ≡ pick a (pick b (pick (isYes (timesFit? limit n)) (laidBody n body r L) bad) bad) bad
   by-layout false b L = refl
   by-layout true false L = refl
-  by-layout true true ill = sym (pick-same (isYes (filled? limit n follow)) bad)
-  by-layout true true (laid zero l) = by-filled (filled? limit n follow) l
-  by-layout true true (laid (suc a) l) = rw (not-first a) (sym (pick-same (isYes (filled? limit n follow)) bad))
+  by-layout true true ill = sym (pick-same (isYes (timesFit? limit n)) bad)
+  by-layout true true (laid zero l) = by-times (timesFit? limit n) l
+  by-layout true true (laid (suc a) l) = rw (not-first a) (sym (pick-same (isYes (timesFit? limit n)) bad))

@@ -3,17 +3,16 @@
 // The contracts cite specs/Blocks.antt; that its tests are those of crate codec's `walkBlock` is proved in proofs/BlockLaws.antt.
 use numbers::little_endian::get_u32;
 use parts::are_parts;
-use parts::store_tops;
 use reading::times::Times;
 use reading::times::times_at;
 ghost use mathlib.Core.Path.{_≡_};
 ghost use Prim.Native.Nat.{_+_, _*_, _≤_, _<_};
 ghost use lib.ListN.{length};
-ghost use Rattle.codec.specs.Valid.{firstIndex, filled?};
-ghost use Rattle.reading.specs.Decided.{isYes, endOf};
+ghost use Rattle.codec.specs.Ends.{endOf};
+ghost use Rattle.reading.specs.Decided.{isYes};
 ghost use Rattle.parts.specs.Parts.{kindsAt};
 ghost use Rattle.image.specs.Block.{blockSize};
-ghost use Rattle.blocks.specs.Blocks.{timesIn, frontAt, bodyAt, nextBlockAt, blockTops};
+ghost use Rattle.blocks.specs.Blocks.{timesFit?, frontAt, bodyAt, nextBlockAt};
 
 // How many bytes and how many times a block has, or no block.
 pub enum BlockFront {
@@ -27,20 +26,20 @@ pub enum NextBlock {
     Wrong,
 }
 
-// Whether a block before `follow` others has as many times as it must: B, or up to B in the last one.
-fn filled(limit: u32, times: u32, follow: u32) -> bool
-    ensures { λ r. ⌜ r ≡ isYes (filled? limit times follow) ⌝ }
+// Whether a block has as many times as it must: one at least, and up to B.
+fn times_fit(limit: u32, times: u32) -> bool
+    ensures { λ r. ⌜ r ≡ isYes (timesFit? limit times) ⌝ }
 {
-    if follow == 0 {
-        return times <= limit;
+    if times == 0 {
+        return false;
     }
-    times == limit
+    times <= limit
 }
 
 // The front of a block: its sizes fit the signals, B and the bytes that are there.
-fn front_at(s: &[u8], at: usize, signals: usize, limit: u32, follow: u32) -> BlockFront
+fn front_at(s: &[u8], at: usize, signals: usize, limit: u32) -> BlockFront
     requires { ⌜ (at ≤ length (now s)) × (signals ≤ 65536) ⌝ }
-    ensures { λ r. ⌜ r ≡ frontAt signals limit follow (now (s .entry)) at ⌝ }
+    ensures { λ r. ⌜ r ≡ frontAt signals limit (now (s .entry)) at ⌝ }
 {
     if s.len() - at < 12 + 4 * signals {
         return BlockFront::Wrong;
@@ -53,23 +52,13 @@ fn front_at(s: &[u8], at: usize, signals: usize, limit: u32, follow: u32) -> Blo
     if size < 12 + 4 * signals + 8 * (times as usize) {
         return BlockFront::Wrong;
     }
-    if !filled(limit, times, follow) {
+    if !times_fit(limit, times) {
         return BlockFront::Wrong;
     }
     if s.len() - at < size {
         return BlockFront::Wrong;
     }
     BlockFront::Sizes(size, times)
-}
-
-// The least index of a change: a later block has none at index 0.
-fn first_index(later: bool) -> u32
-    ensures { λ r. ⌜ r ≡ firstIndex (endOf later 0) ⌝ }
-{
-    if later {
-        return 1;
-    }
-    0
 }
 
 // Times and parts of a block of so many bytes and times.
@@ -81,25 +70,14 @@ fn body_at(
     times: u32,
     later: bool,
     end: u64,
-    tops: &[u8],
 ) -> NextBlock
-    requires { ⌜ (at + size ≤ length (now s)) × (blockSize signals times 0 ≤ size) × (16 + 4 * signals ≤ length (now s)) × (signals ≤ length (now tops)) × (times ≤ 65535) ⌝ }
-    ensures { λ r. ⌜ r ≡ bodyAt signals size times (now (s .entry)) at later end (now (tops .entry)) ⌝ }
+    requires { ⌜ (at + size ≤ length (now s)) × (blockSize signals times 0 ≤ size) × (16 + 4 * signals ≤ length (now s)) × (0 < times) × (times ≤ 65535) ⌝ }
+    ensures { λ r. ⌜ r ≡ bodyAt signals size times (now (s .entry)) at later end ⌝ }
 {
     let front = 12 + 4 * signals + 8 * (times as usize);
     match times_at(s, at + (12 + 4 * signals), times as usize, later, end) {
         Times::Last(last) => {
-            if are_parts(
-                s,
-                16,
-                at + 12,
-                at + front,
-                size - front,
-                signals,
-                tops,
-                times,
-                first_index(later),
-            ) {
+            if are_parts(s, 16, at + 12, at + front, size - front, signals, times) {
                 return NextBlock::At(at + size, last);
             }
             NextBlock::Wrong
@@ -108,31 +86,13 @@ fn body_at(
     }
 }
 
-// The block at a place, before `follow` others; `later` says that one with the last time `end` came before, which left the top classes `tops`.
-pub fn block_at(
-    s: &[u8],
-    at: usize,
-    signals: usize,
-    limit: u32,
-    follow: u32,
-    later: bool,
-    end: u64,
-    tops: &[u8],
-) -> NextBlock
-    requires { ⌜ (at ≤ length (now s)) × (signals ≤ 65536) × (limit ≤ 65535) × (16 + 4 * signals ≤ length (now s)) × (signals ≤ length (now tops)) ⌝ }
-    ensures { λ r. ⌜ r ≡ nextBlockAt limit (kindsAt signals (now (s .entry)) 16) (endOf later end) (now (tops .entry)) follow (now (s .entry)) at ⌝ }
+// The block at a place; `later` says that one with the last time `end` came before.
+pub fn block_at(s: &[u8], at: usize, signals: usize, limit: u32, later: bool, end: u64) -> NextBlock
+    requires { ⌜ (at ≤ length (now s)) × (signals ≤ 65536) × (limit ≤ 65535) × (16 + 4 * signals ≤ length (now s)) ⌝ }
+    ensures { λ r. ⌜ r ≡ nextBlockAt limit (kindsAt signals (now (s .entry)) 16) (endOf later end) (now (s .entry)) at ⌝ }
 {
-    match front_at(s, at, signals, limit, follow) {
-        BlockFront::Sizes(size, times) => body_at(s, at, signals, size, times, later, end, tops),
+    match front_at(s, at, signals, limit) {
+        BlockFront::Sizes(size, times) => body_at(s, at, signals, size, times, later, end),
         BlockFront::Wrong => NextBlock::Wrong,
     }
-}
-
-// Stores the top classes that the block at a place leaves.
-pub fn store_block_tops(s: &[u8], at: usize, signals: usize, tops: &mut [u8])
-    requires { ⌜ (at + blockSize signals (timesIn (now s) at) 0 ≤ length (now s)) × (signals ≤ length (now tops)) ⌝ }
-    ensures { λ r. ⌜ now (tops .exit) ≡ blockTops signals (now (s .entry)) at (now (tops .entry)) ⌝ }
-{
-    let front = 12 + 4 * signals + 8 * (get_u32(s, at + 4) as usize);
-    store_tops(s, at + 12, at + front, signals, tops)
 }

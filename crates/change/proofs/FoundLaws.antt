@@ -31,7 +31,7 @@ use Rattle.recording.specs.Calls.{replyOf, say, recorded, skipped}
 use Rattle.recording.specs.Memory.{Tests, first, guarded}
 use Rattle.recording.specs.Refusals.{stateTests, earlyTests, roomTests}
 use Rattle.recording.specs.Step.{skippedOne}
-use Rattle.refusals.proofs.TestsLaws.{guarded-none, guarded-first}
+use Rattle.recording.proofs.TestsLaws.{guarded-none, guarded-first}
 use Rattle.refusals.proofs.StateLaws.{state-positive, sound}
 use Rattle.change.specs.declared.admission.Admission.{Admission}
 use Rattle.change.specs.declared.admission.Admission.the-variants as admission

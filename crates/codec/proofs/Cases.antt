@@ -19,14 +19,14 @@ use Rattle.image.specs.Image.{streamedParts, blocksBytes, imageBytes}
 use Rattle.form.specs.Form.{repeat, each, getChain}
 use Rattle.codec.specs.Layout.{lengths, layoutForm}
 use Rattle.codec.specs.ImageForm.{stream, blockForm, headForm, imageForm}
-use Rattle.codec.specs.Valid.{risingFrom?, rising?, eachBelow?, knownKinds?, contentFits?, entryFits?, entriesFit?, partFits?, partsFit?, begins?, filled?, blockFits?, blocksFit?, valid?}
+use Rattle.codec.specs.Valid.{risingFrom?, rising?, eachBelow?, knownKinds?, contentFits?, entryFits?, entriesFit?, partFits?, partsFit?, starts?, blockFits?, blocksFit?, valid?}
 use Rattle.codec.specs.Parse.{parse}
 
 -- the bytes of a head with a total that counts them and those after it, and of a block
-abbrev opened : (limit : ℕ) (kinds : List ℕ) (blocks : ℕ) → List ℕ → List ℕ
+abbrev pub opened : (limit : ℕ) (kinds : List ℕ) (blocks : ℕ) → List ℕ → List ℕ
 opened limit ks n body = les 4 (length ks ∷ limit ∷ n ∷ (headSize (length ks) + length body) ∷ ks) ++ body
 
-abbrev of : (times offsets : List ℕ) → List ℕ → List ℕ
+abbrev pub of : (times offsets : List ℕ) → List ℕ → List ℕ
 of ts os d = les 4 (blockSize (length os) (length ts) (length d) ∷ length ts ∷ length os ∷ os) ++ (les 8 ts ++ d)
 
 abbrev real : ℕ
@@ -49,6 +49,13 @@ images =
     ∷ opened 2 (1 ∷ []) 1 (of (5 ∷ []) (1 ∷ []) (2 ∷ 0x01 ∷ []))
     -- a top class that stays though no later value has it
     ∷ opened 2 (1 ∷ []) 2 (of (1 ∷ 2 ∷ []) (1 ∷ []) (1 ∷ 0x02 ∷ []) ++ of (2 ∷ 3 ∷ []) (1 ∷ []) (1 ∷ 0x10 ∷ []))
+    -- joins: a short block before others, one time that is the end, a later start, a change at index 0, a lower top class
+    ∷ opened 3 [] 2 (of (1 ∷ 2 ∷ []) [] [] ++ of (2 ∷ 3 ∷ []) [] [])
+    ∷ opened 2 [] 2 (of (1 ∷ 2 ∷ []) [] [] ++ of (2 ∷ []) [] [])
+    ∷ opened 2 [] 2 (of (1 ∷ 2 ∷ []) [] [] ++ of (3 ∷ 4 ∷ []) [] [])
+    ∷ opened 2 (0 ∷ []) 2 (of (1 ∷ 2 ∷ []) (0 ∷ []) [] ++ of (2 ∷ 3 ∷ []) (1 ∷ []) (0 ∷ 0 ∷ []))
+    ∷ opened 2 (1 ∷ []) 2 (of (1 ∷ 2 ∷ []) (1 ∷ []) (1 ∷ 0x02 ∷ []) ++ of (2 ∷ 3 ∷ []) (1 ∷ []) (0 ∷ 0x10 ∷ []))
+    ∷ opened 2 [] 3 (of (5 ∷ []) [] [] ++ of (5 ∷ []) [] [] ++ of (5 ∷ []) [] [])
     -- two signals, the first without changes, and an absent one
     ∷ opened 2 (1 ∷ 0 ∷ absent ∷ []) 1 (of (5 ∷ []) (0 ∷ 1 ∷ 0 ∷ []) (0 ∷ 0 ∷ []))
     ∷ []
@@ -77,13 +84,8 @@ others =
     ∷ opened 2 [] 1 (of (1 ∷ 2 ∷ 3 ∷ []) [] [])
     ∷ opened 2 [] 1 (of (7 ∷ 7 ∷ []) [] [])
     ∷ opened 2 [] 1 (of (7 ∷ 6 ∷ []) [] [])
-    -- a block before the last with fewer than B times
-    ∷ opened 3 [] 2 (of (1 ∷ 2 ∷ []) [] [] ++ of (2 ∷ 3 ∷ []) [] [])
-    -- a later block with the preceding end alone; one that begins with another time
-    ∷ opened 2 [] 2 (of (1 ∷ 2 ∷ []) [] [] ++ of (2 ∷ []) [] [])
-    ∷ opened 2 [] 2 (of (1 ∷ 2 ∷ []) [] [] ++ of (3 ∷ 4 ∷ []) [] [])
-    -- a later block with a change at index 0
-    ∷ opened 2 (0 ∷ []) 2 (of (1 ∷ 2 ∷ []) (0 ∷ []) [] ++ of (2 ∷ 3 ∷ []) (1 ∷ []) (0 ∷ 0 ∷ []))
+    -- a later block that starts before the end
+    ∷ opened 2 [] 2 (of (1 ∷ 3 ∷ []) [] [] ++ of (2 ∷ 4 ∷ []) [] [])
     -- offsets: bytes before the first, two at one place, two out of order, data without an offset
     ∷ opened 2 (0 ∷ []) 1 (of (7 ∷ []) (2 ∷ []) (0 ∷ 0 ∷ 0 ∷ []))
     ∷ opened 2 (0 ∷ 0 ∷ []) 1 (of (7 ∷ []) (1 ∷ 1 ∷ []) (0 ∷ 0 ∷ []))
@@ -101,18 +103,17 @@ others =
     ∷ opened 2 (1 ∷ []) 1 (of (7 ∷ []) (1 ∷ []) (2 ∷ 0x09 ∷ []))
     ∷ opened 2 (2 ∷ []) 1 (of (7 ∷ []) (1 ∷ []) (2 ∷ 0x02 ∷ 0x91 ∷ []))
     ∷ opened 2 (3 ∷ []) 1 (of (7 ∷ []) (1 ∷ []) (2 ∷ 0x02 ∷ 0x08 ∷ []))
-    -- a class byte above 2; one below its stream's class; one that falls; one above 0 for an event and for a real
+    -- a class byte above 2; one below its stream's class; one above 0 for an event and for a real
     ∷ opened 2 (1 ∷ []) 1 (of (7 ∷ []) (1 ∷ []) (3 ∷ 0x01 ∷ []))
     ∷ opened 2 (1 ∷ []) 1 (of (7 ∷ []) (1 ∷ []) (0 ∷ 0x02 ∷ []))
-    ∷ opened 2 (1 ∷ []) 2 (of (1 ∷ 2 ∷ []) (1 ∷ []) (1 ∷ 0x02 ∷ []) ++ of (2 ∷ 3 ∷ []) (1 ∷ []) (0 ∷ 0x10 ∷ []))
     ∷ opened 2 (0 ∷ []) 1 (of (7 ∷ []) (1 ∷ []) (1 ∷ 0 ∷ []))
     ∷ opened 2 (real ∷ []) 1 (of (7 ∷ []) (1 ∷ []) (1 ∷ 0 ∷ le 8 0))
     ∷ []
 
 pub images-open : map (λ (b : List ℕ). isSome (parse b)) images ≡ map (λ (b : List ℕ). true) images
-unfolding les parse imageForm headForm blockForm layoutForm repeat each lengths unle readLeb stream getChain readChange valueAfter unpacked classOfAll allSymbols digits numberOf lastOr imageBytes blocksBytes streamedParts streamBytes headBytes blockBytes dataOf offsetsFrom le lebOf groups changeBytes packed risingFrom? rising? eachBelow? knownKinds? contentFits? entryFits? entriesFit? partFits? partsFit? begins? filled? blockFits? blocksFit? valid?
+unfolding les parse imageForm headForm blockForm layoutForm repeat each lengths unle readLeb stream getChain readChange valueAfter unpacked classOfAll allSymbols digits numberOf lastOr imageBytes blocksBytes streamedParts streamBytes headBytes blockBytes dataOf offsetsFrom le lebOf groups changeBytes packed risingFrom? rising? eachBelow? knownKinds? contentFits? entryFits? entriesFit? partFits? partsFit? starts? blockFits? blocksFit? valid?
 images-open = refl
 
 pub others-do-not : map (λ (b : List ℕ). isSome (parse b)) others ≡ map (λ (b : List ℕ). false) others
-unfolding les parse imageForm headForm blockForm layoutForm repeat each lengths unle readLeb stream getChain readChange valueAfter unpacked classOfAll allSymbols digits numberOf lastOr imageBytes blocksBytes streamedParts streamBytes headBytes blockBytes dataOf offsetsFrom le lebOf groups changeBytes packed risingFrom? rising? eachBelow? knownKinds? contentFits? entryFits? entriesFit? partFits? partsFit? begins? filled? blockFits? blocksFit? valid?
+unfolding les parse imageForm headForm blockForm layoutForm repeat each lengths unle readLeb stream getChain readChange valueAfter unpacked classOfAll allSymbols digits numberOf lastOr imageBytes blocksBytes streamedParts streamBytes headBytes blockBytes dataOf offsetsFrom le lebOf groups changeBytes packed risingFrom? rising? eachBelow? knownKinds? contentFits? entryFits? entriesFit? partFits? partsFit? starts? blockFits? blocksFit? valid?
 others-do-not = refl

@@ -2,19 +2,19 @@
 -- and of parts and blocks that fit, each one does.
 -- Assumes nothing.
 use Prim.Native.Nat.{ℕ, zero, suc, _-_, _≤_, _<_}
-use mathlib.Core.Path.{_≡_, refl, sym, ap, _∙_, subst}
+use mathlib.Core.Path.{_≡_, refl, sym, ap, _∙_}
 use mathlib.Core.List.{List, [], _∷_, _++_, append-assoc, append-nil}
 use mathlib.Core.Option.{Option, none}
 use native.Mathlib.Omega.{arith}
-use lib.ListN.{length, getD, drop}
+use lib.ListN.{length, getD}
 use Rattle.signal.specs.declared.kind.SignalEncoding.{SignalEncoding}
 use Rattle.signal.specs.declared.kind.SignalEncoding.the-variants.{Absent}
 use Rattle.stream.specs.Stream.{changeBytes}
 use Rattle.stream.specs.Entries.{Entry, streamBytes}
 use Rattle.image.specs.Block.{Part, Block, blockBytes}
 use Rattle.image.specs.Image.{streamed, blocksBytes}
-use Rattle.codec.specs.Valid.{EntryFits, EntriesFit, OptionFits, PartsFit, topAfter, topsAfter, Filled, BlockFits, BlocksFit}
-use Rattle.codec.specs.Full.{FullBlocks, endAfter, topsLeft, lastIndex}
+use Rattle.codec.specs.Valid.{EntryFits, EntriesFit, OptionFits, PartsFit, BlockFits, BlocksFit}
+use Rattle.codec.specs.Ends.{endAfter, lastIndex}
 
 -- ---- a stream
 
@@ -42,43 +42,25 @@ entries-wider k n m i top t (x ∷ l) h g f =
 
 -- ---- the parts of a block, by signal number
 
-rest-at : (g : ℕ) (tops : List ℕ) → getD (drop 1 tops) g 0 ≡ getD tops (suc g) 0
-rest-at g [] = refl
-rest-at g (t ∷ tops) = refl
+pub parts-each : (n : ℕ) (ks : List SignalEncoding) (ps : List (Option (Part (List Entry)))) → PartsFit n ks ps → (g : ℕ) → OptionFits (getD ks g Absent) n (getD ps g none)
+parts-each n [] [] f g = tt
+parts-each n [] (p ∷ ps) f g = absurd f
+parts-each n (k ∷ ks) [] f g = absurd f
+parts-each n (k ∷ ks) (p ∷ ps) f zero = f .0
+parts-each n (k ∷ ks) (p ∷ ps) f (suc g) = parts-each n ks ps (f .1) g
 
-pub parts-each : (n i : ℕ) (ks : List SignalEncoding) (tops : List ℕ) (ps : List (Option (Part (List Entry)))) → PartsFit n i ks tops ps
-    → (g : ℕ) → OptionFits (getD ks g Absent) n i (getD tops g 0) (getD ps g none)
-parts-each n i [] tops [] f g = tt
-parts-each n i [] tops (p ∷ ps) f g = absurd f
-parts-each n i (k ∷ ks) tops [] f g = absurd f
-parts-each n i (k ∷ ks) tops (p ∷ ps) f zero = f .0
-parts-each n i (k ∷ ks) tops (p ∷ ps) f (suc g) =
-    subst (λ (t : ℕ). OptionFits (getD ks g Absent) n i t (getD ps g none)) (rest-at g tops) (parts-each n i ks (drop 1 tops) ps (f .1) g)
+pub each-parts : (n : ℕ) (ks : List SignalEncoding) (ps : List (Option (Part (List Entry)))) → length ps ≡ length ks
+    → ((g : ℕ) → g < length ks → OptionFits (getD ks g Absent) n (getD ps g none)) → PartsFit n ks ps
+each-parts n [] [] e f = tt
+each-parts n [] (p ∷ ps) e f = absurd (omega arith)
+each-parts n (k ∷ ks) [] e f = absurd (omega arith)
+each-parts n (k ∷ ks) (p ∷ ps) e f = (f 0 (omega arith), each-parts n ks ps (omega arith) (λ g h. f (suc g) (omega arith)))
 
-pub each-parts : (n i : ℕ) (ks : List SignalEncoding) (tops : List ℕ) (ps : List (Option (Part (List Entry)))) → length ps ≡ length ks
-    → ((g : ℕ) → g < length ks → OptionFits (getD ks g Absent) n i (getD tops g 0) (getD ps g none)) → PartsFit n i ks tops ps
-each-parts n i [] tops [] e f = tt
-each-parts n i [] tops (p ∷ ps) e f = absurd (omega arith)
-each-parts n i (k ∷ ks) tops [] e f = absurd (omega arith)
-each-parts n i (k ∷ ks) tops (p ∷ ps) e f = (
-  f 0 (omega arith),
-  each-parts n i ks (drop 1 tops) ps (omega arith)
-      (λ g h. subst (λ (t : ℕ). OptionFits (getD ks g Absent) n i t (getD ps g none)) (sym (rest-at g tops)) (f (suc g) (omega arith))),
-)
-
-pub parts-count : (n i : ℕ) (ks : List SignalEncoding) (tops : List ℕ) (ps : List (Option (Part (List Entry)))) → PartsFit n i ks tops ps → length ps ≡ length ks
-parts-count n i [] tops [] f = refl
-parts-count n i [] tops (p ∷ ps) f = absurd f
-parts-count n i (k ∷ ks) tops [] f = absurd f
-parts-count n i (k ∷ ks) tops (p ∷ ps) f = ap suc (parts-count n i ks (drop 1 tops) ps (f .1))
-
--- the top classes after a block, by signal number
-pub tops-at : (g : ℕ) (tops : List ℕ) (ps : List (Option (Part (List Entry)))) → g < length ps
-    → getD (topsAfter tops ps) g 0 ≡ topAfter (getD tops g 0) (getD ps g none)
-tops-at g tops [] h = absurd (omega arith)
-tops-at zero tops (p ∷ ps) h = refl
-tops-at (suc g) tops (p ∷ ps) h =
-    subst (λ (t : ℕ). getD (topsAfter (drop 1 tops) ps) g 0 ≡ topAfter t (getD ps g none)) (rest-at g tops) (tops-at g (drop 1 tops) ps (omega arith))
+pub parts-count : (n : ℕ) (ks : List SignalEncoding) (ps : List (Option (Part (List Entry)))) → PartsFit n ks ps → length ps ≡ length ks
+parts-count n [] [] f = refl
+parts-count n [] (p ∷ ps) f = absurd f
+parts-count n (k ∷ ks) [] f = absurd f
+parts-count n (k ∷ ks) (p ∷ ps) f = ap suc (parts-count n ks ps (f .1))
 
 -- ---- blocks
 
@@ -93,42 +75,20 @@ unfolding blocksBytes
 blocks-one ks b = append-nil (blockBytes (streamed ks b))
 
 module _ (limit : ℕ) (ks : List SignalEncoding) where
-  -- a block among blocks that fit: it fits after those before it
-  pub record Fitting (b : Block (List Entry)) : Type 0 where
-    pub end : Option ℕ
-    pub tops : List ℕ
-    pub follow : ℕ
-    pub fits : BlockFits limit ks end tops b follow
+  -- a block among blocks that fit
+  pub blocks-each : (end : Option ℕ) (bs : List (Block (List Entry))) (past : Block (List Entry)) → BlocksFit limit ks end bs
+      → (n : ℕ) → n < length bs → BlockFits limit ks (getD bs n past)
+  blocks-each end [] past f n h = absurd (omega arith)
+  blocks-each end (b ∷ bs) past f zero h = f .1 .0
+  blocks-each end (b ∷ bs) past f (suc n) h = blocks-each _ bs past (f .1 .1) n (omega arith)
 
-  pub blocks-each : (end : Option ℕ) (tops : List ℕ) (bs : List (Block (List Entry))) (past : Block (List Entry)) → BlocksFit limit ks end tops bs
-      → (n : ℕ) → n < length bs → Fitting (getD bs n past)
-  blocks-each end tops [] past f n h = absurd (omega arith)
-  blocks-each end tops (b ∷ bs) past f zero h = record { end = end; tops = tops; follow = length bs; fits = f .0 }
-  blocks-each end tops (b ∷ bs) past f (suc n) h = blocks-each _ _ bs past (f .1) n (omega arith)
+  -- blocks, and others that start at or after their end
+  pub blocks-join : (end : Option ℕ) (bs cs : List (Block (List Entry))) → BlocksFit limit ks end bs → BlocksFit limit ks (endAfter end bs) cs → BlocksFit limit ks end (bs ++ cs)
+  unfolding endAfter
+  blocks-join end [] cs f g = g
+  blocks-join end (b ∷ bs) cs f g = (f .0, (f .1 .0, blocks-join _ bs cs (f .1 .1) g))
 
-  -- a full block fits wherever it stands
-  full-anywhere : (end : Option ℕ) (tops : List ℕ) (b : Block (List Entry)) (follow : ℕ) → BlockFits limit ks end tops b 1 → BlockFits limit ks end tops b follow
-  full-anywhere end tops b follow f =
-      record { filled = by follow (f .filled); begins = f .begins; rising = f .rising; small = f .small; parts = f .parts }
-    where
-      by : (follow : ℕ) → length (b .times) ≡ limit → Filled limit (length (b .times)) follow
-      by zero e = omega arith
-      by (suc n) e = e
-
-  -- after full blocks comes a full one, none, or a last one
-  pub full-more : (end : Option ℕ) (tops : List ℕ) (bs : List (Block (List Entry))) (b : Block (List Entry)) → FullBlocks limit ks end tops bs
-      → BlockFits limit ks (endAfter end bs) (topsLeft tops bs) b 1 → FullBlocks limit ks end tops (bs ++ b ∷ [])
-  unfolding FullBlocks endAfter topsLeft
-  full-more end tops [] b f g = (g, tt)
-  full-more end tops (c ∷ bs) b f g = (f .0, full-more _ _ bs b (f .1) g)
-
-  pub full-fit : (end : Option ℕ) (tops : List ℕ) (bs : List (Block (List Entry))) → FullBlocks limit ks end tops bs → BlocksFit limit ks end tops bs
-  unfolding FullBlocks
-  full-fit end tops [] f = tt
-  full-fit end tops (b ∷ bs) f = (full-anywhere end tops b (length bs) (f .0), full-fit _ _ bs (f .1))
-
-  pub full-last : (end : Option ℕ) (tops : List ℕ) (bs : List (Block (List Entry))) (b : Block (List Entry)) → FullBlocks limit ks end tops bs
-      → BlockFits limit ks (endAfter end bs) (topsLeft tops bs) b 0 → BlocksFit limit ks end tops (bs ++ b ∷ [])
-  unfolding FullBlocks endAfter topsLeft
-  full-last end tops [] b f g = (g, tt)
-  full-last end tops (c ∷ bs) b f g = (full-anywhere end tops c (length (bs ++ b ∷ [])) (f .0), full-last _ _ bs b (f .1) g)
+  -- the first block of an image may start anywhere
+  pub blocks-first : (end : Option ℕ) (bs : List (Block (List Entry))) → BlocksFit limit ks end bs → BlocksFit limit ks none bs
+  blocks-first end [] f = tt
+  blocks-first end (b ∷ bs) f = (tt, f .1)

@@ -7,7 +7,7 @@ use mathlib.Core.List.{List, [], _∷_, _++_, map}
 use mathlib.Core.Option.{Option, some, none}
 use native.Mathlib.Omega.{arith}
 use borrow.Author.Tests.{le-leb, leb-true, eq-eqb}
-use lib.ListN.{length, getD, drop, length-append, length-map}
+use lib.ListN.{length, getD, length-append, length-map}
 use Rattle.numbers.specs.LittleEndian.{le}
 use Rattle.numbers.proofs.LittleEndianLaws.{length-le}
 use Rattle.signal.specs.declared.kind.SignalEncoding.{SignalEncoding}
@@ -18,7 +18,7 @@ use Rattle.image.specs.Block.{Part, Block, les, blockSize, blockBytes}
 use Rattle.image.specs.Head.{kindNumber, headSize, headBytes, imageLimit}
 use Rattle.image.specs.Image.{Image, streamedParts, streamed, blocksBytes, imageBytes}
 use Rattle.image.proofs.SizeLaws.{length-les, block-size}
-use Rattle.codec.specs.Valid.{EachBelow, KnownKinds, EntryFits, EntriesFit, PartFits, PartsFit, firstIndex, Filled, BlockFits, BlocksFit, Valid}
+use Rattle.codec.specs.Valid.{EachBelow, KnownKinds, EntryFits, EntriesFit, PartFits, PartsFit, BlockFits, BlocksFit, Valid}
 use Rattle.form.specs.Form.{OkChain, repeat, each, uint}
 use Rattle.codec.specs.Layout.{lengthsIn, offsets, dataSize, layout, layoutForm}
 use Rattle.codec.specs.ImageForm.{entryForm, stream, partForm, blockForm, kindForm, Head, headForm, headOf, imageForm}
@@ -70,20 +70,19 @@ top-small (BitVector (suc w)) = omega arith
 top-small Real = omega arith
 top-small Absent = omega arith
 
-part-fits : (k : SignalEncoding) (n i before : ℕ) (p : Part (List Entry)) → n ≤ 65535 → PartFits k n i before p
+part-fits : (k : SignalEncoding) (n : ℕ) (p : Part (List Entry)) → n ≤ 65535 → PartFits k n p
     → partForm k (some (length (streamBytes k 0 (p .stream)))) .Ok (some p)
-part-fits k n i before p small f =
-    ((omega (arith, top-small k, f .most), (stream-fits k n i (p .top) (p .stream) small (f .entries), ap length (stream-written k (p .stream)))), refl)
+part-fits k n p small f =
+    ((omega (arith, top-small k, f .most), (stream-fits k n 0 (p .top) (p .stream) small (f .entries), ap length (stream-written k (p .stream)))), refl)
 
-parts-fit : (n i : ℕ) (ks : List SignalEncoding) (tops : List ℕ) (ps : List (Option (Part (List Entry)))) → n ≤ 65535 → PartsFit n i ks tops ps
+parts-fit : (n : ℕ) (ks : List SignalEncoding) (ps : List (Option (Part (List Entry)))) → n ≤ 65535 → PartsFit n ks ps
     → each partForm ks (lengthsIn (streamedParts ks ps)) .Ok ps
 unfolding each lengthsIn streamedParts
-parts-fit n i [] tops [] small f = refl
-parts-fit n i [] tops (p ∷ ps) small f = absurd f
-parts-fit n i (k ∷ ks) tops [] small f = absurd f
-parts-fit n i (k ∷ ks) tops (none ∷ ps) small f = (refl, parts-fit n i ks (drop 1 tops) ps small (f .1))
-parts-fit n i (k ∷ ks) tops (some p ∷ ps) small f =
-    (part-fits k n i (getD tops 0 0) p small (f .0), parts-fit n i ks (drop 1 tops) ps small (f .1))
+parts-fit n [] [] small f = refl
+parts-fit n [] (p ∷ ps) small f = absurd f
+parts-fit n (k ∷ ks) [] small f = absurd f
+parts-fit n (k ∷ ks) (none ∷ ps) small f = (refl, parts-fit n ks ps small (f .1))
+parts-fit n (k ∷ ks) (some p ∷ ps) small f = (part-fits k n p small (f .0), parts-fit n ks ps small (f .1))
 
 offsets-below : (m a : ℕ) (l : List (Option ℕ)) → a + dataSize l < m → EachBelow m (offsets a l)
 unfolding offsets dataSize
@@ -100,32 +99,27 @@ layout-fits s t l e h =
       rw (eq-eqb s s refl, le-leb (blockSize s t 0) n (omega arith), d, lengths-of 0 l) refl,
     )
 
-pub filled-small : (limit n follow : ℕ) → Filled limit n follow → n ≤ limit
-filled-small limit n zero f = f
-filled-small limit n (suc follow) f = omega arith
-
 module _ (limit : ℕ) (ks : List SignalEncoding) (high : limit ≤ 65535) where
-  block-fits : (end : Option ℕ) (tops : List ℕ) (b : Block (List Entry)) (follow : ℕ) → BlockFits limit ks end tops b follow
-      → length (blockBytes (streamed ks b)) ≤ imageLimit → blockForm ks .Ok b
+  block-fits : (b : Block (List Entry)) → BlockFits limit ks b → length (blockBytes (streamed ks b)) ≤ imageLimit → blockForm ks .Ok b
   unfolding blockForm
-  block-fits end tops b follow f h =
+  block-fits b f h =
       let t : ℕ = length (b .times) in
-      let n : t ≤ 65535 = omega (arith, filled-small limit t follow (f .filled)) in
+      let n : t ≤ 65535 = omega (arith, f .few) in
       let ps : List (Option (Part (List ℕ))) = streamedParts ks (b .parts) in
       let s : length ps ≡ length ks = count-streamed ks (b .parts) in
       let e = block-size (streamed ks b) in
       let z = size-parts ps in (
         layout-fits (length ks) t (lengthsIn ps) (count-parts ps ∙ s) (omega arith),
-        ((uints-fit 8 t (b .times) refl (f .small), parts-fit t (firstIndex end) ks tops (b .parts) n (f .parts)), refl),
+        ((uints-fit 8 t (b .times) refl (f .small), parts-fit t ks (b .parts) n (f .parts)), refl),
       )
 
-  blocks-fit : (end : Option ℕ) (tops : List ℕ) (bs : List (Block (List Entry))) → BlocksFit limit ks end tops bs
+  blocks-fit : (end : Option ℕ) (bs : List (Block (List Entry))) → BlocksFit limit ks end bs
       → length (blocksBytes ks bs) ≤ imageLimit → repeat (length bs) (blockForm ks) .Ok bs
   unfolding repeat blocksBytes
-  blocks-fit end tops [] f h = refl
-  blocks-fit end tops (b ∷ bs) f h =
+  blocks-fit end [] f h = refl
+  blocks-fit end (b ∷ bs) f h =
       let e = length-append (blockBytes (streamed ks b)) (blocksBytes ks bs) in
-      (block-fits end tops b (length bs) (f .0) (omega arith), blocks-fit _ _ bs (f .1) (omega arith))
+      (block-fits b (f .1 .0) (omega arith), blocks-fit _ bs (f .1 .1) (omega arith))
 
 -- every block has a byte
 pub blocks-count : (ks : List SignalEncoding) (bs : List (Block (List Entry))) → length bs ≤ length (blocksBytes ks bs)
@@ -183,5 +177,5 @@ image-fits x v =
     let c = blocks-count (x .kinds) (x .blocks) in
     let w = ap (λ (l : List ℕ). headSize (length (x .kinds)) + length l) (blocks-written (x .kinds) (x .blocks)) in (
       head-fits (headOf x) (v .signals) (v .high) (omega (arith, v .total)) (omega (arith, v .total)) (v .kinds),
-      ((blocks-fit (x .limit) (x .kinds) (v .high) none [] (x .blocks) (v .blocks) (omega (arith, v .total)), w), refl),
+      ((blocks-fit (x .limit) (x .kinds) (v .high) none (x .blocks) (v .blocks) (omega (arith, v .total)), w), refl),
     )

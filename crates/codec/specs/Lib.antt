@@ -3,4 +3,4 @@ pub mod ImageForm
 pub mod Valid
 pub mod Parse
 pub mod Walk
-pub mod Full
+pub mod Ends

@@ -1,5 +1,5 @@
--- Document 01, 'Block and image' ("An image is its total bytes and none after. Opener: accepts exactly what the third demand says"): what
--- bytes mean as an image.
+-- Document 01, 'Block and image' ("An image is its total bytes and none after. Opener: accepts exactly what the third demand says"), with the
+-- opener's rule of document 02, 'Joining two recordings': what bytes mean as an image.
 -- Laws (proofs/Trip): a valid image is read back from its bytes, and bytes that are read are those of a valid image.
 -- Assumes nothing.
 use Prim.Native.Nat.{ℕ}

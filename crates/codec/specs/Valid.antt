@@ -1,12 +1,13 @@
--- Document 01, 'Block and image' ("Opener"): which images a recording can leave. Offsets, sizes, counts and the shape of a stream's bytes
--- are no matter here: `imageBytes` writes them in one way only. The second half of the file decides each rule.
+-- Document 01, 'Block and image' ("Opener"), with document 02's joins: which images a recording can leave or a join make. So every block by itself
+-- passes the rules of a first block, and starts at or after the end before it. Offsets, sizes, counts and the shape of a stream's bytes are no
+-- matter here: `imageBytes` writes them in one way only. The second half of the file decides each rule.
 -- Assumes nothing.
 use Prim.Native.Nat.{ℕ, zero, suc, _≤_, _<_, _^_}
 use mathlib.Core.Path.{_≡_}
 use mathlib.Core.Bool.{true}
 use mathlib.Core.List.{List, [], _∷_}
 use mathlib.Core.Option.{Option, some, none}
-use lib.ListN.{length, getD, drop}
+use lib.ListN.{length, getD}
 use Rattle.lists.specs.Last.{lastOr}
 use Rattle.value.specs.Class.{classOfAll, allSymbols}
 use Rattle.signal.specs.declared.kind.SignalEncoding.{SignalEncoding}
@@ -48,60 +49,40 @@ abbrev pub EntriesFit : (k : SignalEncoding) (n i top : ℕ) → List Entry → 
 EntriesFit k n i top [] = Unit {0}
 EntriesFit k n i top (e ∷ l) = EntryFits k n i top e × EntriesFit k n (e .index) top l
 
--- a part is there for a signal with changes only (so for no absent one); its top class never falls below the one before, a raw claim may
--- raise it above its stream's classes, and for events and reals it is 0
-pub record PartFits (k : SignalEncoding) (n i before : ℕ) (p : Part (List Entry)) : Type 0 where
+-- a part is there for a signal with changes only (so for no absent one); a raw claim may raise its top class above its stream's classes, and
+-- for events and reals it is 0
+pub record PartFits (k : SignalEncoding) (n : ℕ) (p : Part (List Entry)) : Type 0 where
   pub any : 0 < length (p .stream)
-  pub never-falls : before ≤ p .top
   pub most : p .top ≤ topLimit k
-  pub entries : EntriesFit k n i (p .top) (p .stream)
+  pub entries : EntriesFit k n 0 (p .top) (p .stream)
 
-abbrev pub OptionFits : (k : SignalEncoding) (n i before : ℕ) → Option (Part (List Entry)) → Type 0
-OptionFits k n i before none = Unit {0}
-OptionFits k n i before (some p) = PartFits k n i before p
+abbrev pub OptionFits : (k : SignalEncoding) (n : ℕ) → Option (Part (List Entry)) → Type 0
+OptionFits k n none = Unit {0}
+OptionFits k n (some p) = PartFits k n p
 
--- one for each signal; tops are the top classes before, 0 where the list ends
-abbrev pub PartsFit : (n i : ℕ) → List SignalEncoding → (tops : List ℕ) → List (Option (Part (List Entry))) → Type 0
-PartsFit n i [] tops [] = Unit {0}
-PartsFit n i [] tops (p ∷ ps) = ⊥
-PartsFit n i (k ∷ ks) tops [] = ⊥
-PartsFit n i (k ∷ ks) tops (p ∷ ps) = OptionFits k n i (getD tops 0 0) p × PartsFit n i ks (drop 1 tops) ps
+-- one for each signal
+abbrev pub PartsFit : (n : ℕ) → List SignalEncoding → List (Option (Part (List Entry))) → Type 0
+PartsFit n [] [] = Unit {0}
+PartsFit n [] (p ∷ ps) = ⊥
+PartsFit n (k ∷ ks) [] = ⊥
+PartsFit n (k ∷ ks) (p ∷ ps) = OptionFits k n p × PartsFit n ks ps
 
-abbrev pub topAfter : ℕ → Option (Part (List Entry)) → ℕ
-topAfter t none = t
-topAfter t (some p) = p .top
-
-abbrev pub topsAfter : List ℕ → List (Option (Part (List Entry))) → List ℕ
-topsAfter tops [] = []
-topsAfter tops (p ∷ ps) = topAfter (getD tops 0 0) p ∷ topsAfter (drop 1 tops) ps
-
--- a first block has a time; a later one begins with the preceding end, and has a time more, since a cut is followed by a taken time
-abbrev pub Begins : (end : Option ℕ) → List ℕ → Type 0
-Begins none ts = 1 ≤ length ts
-Begins (some t) ts = (2 ≤ length ts) × (getD ts 0 0 ≡ t)
-
--- a later block has no change at index 0
-abbrev pub firstIndex : (end : Option ℕ) → ℕ
-firstIndex none = 0
-firstIndex (some t) = 1
-
--- blocks but the last have B times
-abbrev pub Filled : (limit n follow : ℕ) → Type 0
-Filled limit n zero = n ≤ limit
-Filled limit n (suc follow) = n ≡ limit
-
--- a block after one that ended with `end`, if any, and left the top classes `tops`; so many follow it
-pub record BlockFits (limit : ℕ) (ks : List SignalEncoding) (end : Option ℕ) (tops : List ℕ) (b : Block (List Entry)) (follow : ℕ) : Type 0 where
-  pub filled : Filled limit (length (b .times)) follow
-  pub begins : Begins end (b .times)
+-- a block by itself: at most B times, and one at least
+pub record BlockFits (limit : ℕ) (ks : List SignalEncoding) (b : Block (List Entry)) : Type 0 where
+  pub any : 1 ≤ length (b .times)
+  pub few : length (b .times) ≤ limit
   pub rising : Rising (b .times)
   pub small : EachBelow (2 ^ 64) (b .times)
-  pub parts : PartsFit (length (b .times)) (firstIndex end) ks tops (b .parts)
+  pub parts : PartsFit (length (b .times)) ks (b .parts)
 
-abbrev pub BlocksFit : (limit : ℕ) → List SignalEncoding → (end : Option ℕ) → (tops : List ℕ) → List (Block (List Entry)) → Type 0
-BlocksFit limit ks end tops [] = Unit {0}
-BlocksFit limit ks end tops (b ∷ bs) =
-    BlockFits limit ks end tops b (length bs) × BlocksFit limit ks (some (lastOr 0 (b .times))) (topsAfter tops (b .parts)) bs
+-- it starts at or after the end before it, if any
+abbrev pub Starts : (end : Option ℕ) → List ℕ → Type 0
+Starts none ts = Unit {0}
+Starts (some t) ts = t ≤ getD ts 0 0
+
+abbrev pub BlocksFit : (limit : ℕ) → List SignalEncoding → (end : Option ℕ) → List (Block (List Entry)) → Type 0
+BlocksFit limit ks end [] = Unit {0}
+BlocksFit limit ks end (b ∷ bs) = Starts end (b .times) × (BlockFits limit ks b × BlocksFit limit ks (some (lastOr 0 (b .times))) bs)
 
 -- B, S and kinds as a start takes them; at most 1,073,741,824 bytes
 pub record Valid (x : Image) : Type 0 where
@@ -110,7 +91,7 @@ pub record Valid (x : Image) : Type 0 where
   pub signals : length (x .kinds) ≤ 65536
   pub kinds : KnownKinds (x .kinds)
   pub total : length (imageBytes x) ≤ imageLimit
-  pub blocks : BlocksFit (x .limit) (x .kinds) none [] (x .blocks)
+  pub blocks : BlocksFit (x .limit) (x .kinds) none (x .blocks)
 
 -- ---- decided
 
@@ -151,43 +132,37 @@ unfoldable pub entriesFit? : (k : SignalEncoding) (n i top : ℕ) (l : List Entr
 entriesFit? k n i top [] = always
 entriesFit? k n i top (e ∷ l) = both (entryFits? k n i top e) (entriesFit? k n (e .index) top l)
 
-unfoldable pub partFits? : (k : SignalEncoding) (n i before : ℕ) (p : Option (Part (List Entry))) → Dec (OptionFits k n i before p)
-partFits? k n i before none = always
-partFits? k n i before (some p) =
-    mapDec (λ q. record { any = q .0; never-falls = q .1 .0; most = q .1 .1 .0; entries = q .1 .1 .1 }) (λ r. (r .any, (r .never-falls, (r .most, r .entries))))
-    (both (lt? 0 (length (p .stream))) (both (le? before (p .top)) (both (le? (p .top) (topLimit k)) (entriesFit? k n i (p .top) (p .stream)))))
+unfoldable pub partFits? : (k : SignalEncoding) (n : ℕ) (p : Option (Part (List Entry))) → Dec (OptionFits k n p)
+partFits? k n none = always
+partFits? k n (some p) =
+    mapDec (λ q. record { any = q .0; most = q .1 .0; entries = q .1 .1 }) (λ r. (r .any, (r .most, r .entries)))
+    (both (lt? 0 (length (p .stream))) (both (le? (p .top) (topLimit k)) (entriesFit? k n 0 (p .top) (p .stream))))
 
-unfoldable pub partsFit? : (n i : ℕ) (ks : List SignalEncoding) (tops : List ℕ) (ps : List (Option (Part (List Entry)))) → Dec (PartsFit n i ks tops ps)
-partsFit? n i [] tops [] = always
-partsFit? n i [] tops (p ∷ ps) = impossible
-partsFit? n i (k ∷ ks) tops [] = impossible
-partsFit? n i (k ∷ ks) tops (p ∷ ps) = both (partFits? k n i (getD tops 0 0) p) (partsFit? n i ks (drop 1 tops) ps)
+unfoldable pub partsFit? : (n : ℕ) (ks : List SignalEncoding) (ps : List (Option (Part (List Entry)))) → Dec (PartsFit n ks ps)
+partsFit? n [] [] = always
+partsFit? n [] (p ∷ ps) = impossible
+partsFit? n (k ∷ ks) [] = impossible
+partsFit? n (k ∷ ks) (p ∷ ps) = both (partFits? k n p) (partsFit? n ks ps)
 
-unfoldable pub begins? : (end : Option ℕ) (ts : List ℕ) → Dec (Begins end ts)
-begins? none ts = le? 1 (length ts)
-begins? (some t) ts = both (le? 2 (length ts)) (eq? (getD ts 0 0) t)
+unfoldable pub blockFits? : (limit : ℕ) (ks : List SignalEncoding) (b : Block (List Entry)) → Dec (BlockFits limit ks b)
+blockFits? limit ks b =
+    mapDec (λ q. record { any = q .0; few = q .1 .0; rising = q .1 .1 .0; small = q .1 .1 .1 .0; parts = q .1 .1 .1 .1 })
+    (λ r. (r .any, (r .few, (r .rising, (r .small, r .parts)))))
+    (both (le? 1 (length (b .times))) (both (le? (length (b .times)) limit) (both (rising? (b .times)) (both (eachBelow? (2 ^ 64) (b .times))
+    (partsFit? (length (b .times)) ks (b .parts))))))
 
-unfoldable pub filled? : (limit n follow : ℕ) → Dec (Filled limit n follow)
-filled? limit n zero = le? n limit
-filled? limit n (suc follow) = eq? n limit
+unfoldable pub starts? : (end : Option ℕ) (ts : List ℕ) → Dec (Starts end ts)
+starts? none ts = always
+starts? (some t) ts = le? t (getD ts 0 0)
 
-unfoldable pub blockFits? : (limit : ℕ) (ks : List SignalEncoding) (end : Option ℕ) (tops : List ℕ) (b : Block (List Entry)) (follow : ℕ)
-    → Dec (BlockFits limit ks end tops b follow)
-blockFits? limit ks end tops b follow =
-    mapDec (λ q. record { filled = q .0; begins = q .1 .0; rising = q .1 .1 .0; small = q .1 .1 .1 .0; parts = q .1 .1 .1 .1 })
-    (λ r. (r .filled, (r .begins, (r .rising, (r .small, r .parts)))))
-    (both (filled? limit (length (b .times)) follow) (both (begins? end (b .times)) (both (rising? (b .times)) (both (eachBelow? (2 ^ 64) (b .times))
-    (partsFit? (length (b .times)) (firstIndex end) ks tops (b .parts))))))
-
-unfoldable pub blocksFit? : (limit : ℕ) (ks : List SignalEncoding) (end : Option ℕ) (tops : List ℕ) (bs : List (Block (List Entry)))
-    → Dec (BlocksFit limit ks end tops bs)
-blocksFit? limit ks end tops [] = always
-blocksFit? limit ks end tops (b ∷ bs) =
-    both (blockFits? limit ks end tops b (length bs)) (blocksFit? limit ks (some (lastOr 0 (b .times))) (topsAfter tops (b .parts)) bs)
+unfoldable pub blocksFit? : (limit : ℕ) (ks : List SignalEncoding) (end : Option ℕ) (bs : List (Block (List Entry))) → Dec (BlocksFit limit ks end bs)
+blocksFit? limit ks end [] = always
+blocksFit? limit ks end (b ∷ bs) =
+    both (starts? end (b .times)) (both (blockFits? limit ks b) (blocksFit? limit ks (some (lastOr 0 (b .times))) bs))
 
 unfoldable pub valid? : (x : Image) → Dec (Valid x)
 valid? x =
     mapDec (λ q. record { low = q .0; high = q .1 .0; signals = q .1 .1 .0; kinds = q .1 .1 .1 .0; total = q .1 .1 .1 .1 .0; blocks = q .1 .1 .1 .1 .1 })
     (λ r. (r .low, (r .high, (r .signals, (r .kinds, (r .total, r .blocks))))))
     (both (le? 2 (x .limit)) (both (le? (x .limit) 65535) (both (le? (length (x .kinds)) 65536) (both (knownKinds? (x .kinds))
-    (both (le? (length (imageBytes x)) imageLimit) (blocksFit? (x .limit) (x .kinds) none [] (x .blocks)))))))
+    (both (le? (length (imageBytes x)) imageLimit) (blocksFit? (x .limit) (x .kinds) none (x .blocks)))))))

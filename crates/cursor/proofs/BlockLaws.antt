@@ -18,9 +18,7 @@ use Rattle.image.specs.Block.{Block, block}
 use Rattle.image.specs.Head.{imageLimit}
 use Rattle.image.specs.Image.{Image, streamed}
 use Rattle.image.proofs.SizeLaws.{block-size}
-use Rattle.codec.specs.Valid.{firstIndex}
 use Rattle.codec.proofs.StreamLaws.{change-long}
-use Rattle.codec.proofs.ImageFits.{filled-small}
 use Rattle.loaded.specs.Opener.{kindAt, blockAt, partAt}
 use Rattle.loaded.specs.Loading.{entriesIn}
 use Rattle.entry.specs.Read.{contentRead, Reads}
@@ -62,14 +60,14 @@ same-block n m at b h k = by (decLt n m) (decLt m n)
 times-most : (n at : ℕ) (b : List ℕ) → Bytes b → Opened b → BlockHere n at b → length (blockAt (imageIn b) n .times) ≤ maxDelta + 1
 times-most n at b y o h =
     let f = fits-in n b y o (h .exists) in
-    omega (arith, filled-small (imageIn b .limit) (length (blockAt (imageIn b) n .times)) (f .follow) (f .fits .filled), means b y o .valid .high)
+    omega (arith, f .few, means b y o .valid .high)
 
 -- the entries kept before a block and those of the block are not more than the bytes up to its end
 pub counts-next : (n at g count : ℕ) (b : List ℕ) → Bytes b → Opened b → BlockHere n at b → count ≤ at
     → count + length (entriesIn (partAt (blockAt (imageIn b) n) g)) ≤ blockPlace (imageIn b) (suc n)
 counts-next n at g count b y o h c =
     let q = fits-in n b y o (h .exists) in
-    omega (arith, next-size (imageIn b) n (h .exists), h .place, parts-short _ (firstIndex (q .end)) (imageIn b .kinds) (q .tops) (blockAt (imageIn b) n .parts) g (q .fits .parts))
+    omega (arith, next-size (imageIn b) n (h .exists), h .place, parts-short _ (imageIn b .kinds) (blockAt (imageIn b) n .parts) g (q .parts))
 
 next-most : (n at : ℕ) (b : List ℕ) → Bytes b → Opened b → BlockHere n at b → blockPlace (imageIn b) (suc n) ≤ imageLimit
 next-most n at b y o h = omega (arith, next-size (imageIn b) n (h .exists), h .place, here n at b y o h .most, head-in b y o .most)
@@ -92,7 +90,7 @@ pub passing-begins : (n : ℕ) (k : SignalEncoding) (b : List ℕ) (g at from to
 passing-begins n k b g at from to top t start y o h e f r c =
     let x = imageIn b in
     let q = fits-in n b y o (h .exists) in
-    let w = part-fits _ (firstIndex (q .end)) (x .kinds) (q .tops) (blockAt x n .parts) g (q .fits .parts) in
+    let w = part-fits _ (x .kinds) (blockAt x n .parts) g (q .parts) in
     let es : List Entry = entriesIn (partAt (blockAt x n) g) in
     let z : from + (to - from) ≡ to = omega (arith, f .ordered) in
     let s : drop from b ≡ streamBytes (kindAt x g) 0 es ++ drop to b =

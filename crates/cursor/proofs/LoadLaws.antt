@@ -18,7 +18,7 @@ use Rattle.signal.specs.declared.kind.SignalEncoding.the-variants.{Absent}
 use Rattle.stream.specs.Entries.{Entry}
 use Rattle.image.specs.Block.{Part, Block, partBytes, dataOf}
 use Rattle.image.specs.Image.{streamedPart, streamedParts}
-use Rattle.codec.specs.Valid.{EntriesFit, OptionFits, PartsFit, BlocksFit, firstIndex, topsAfter}
+use Rattle.codec.specs.Valid.{EntriesFit, OptionFits, PartsFit, BlocksFit}
 use Rattle.codec.proofs.StreamLaws.{stream-long}
 use Rattle.codec.proofs.Growth.{parts-each}
 use Rattle.loaded.specs.Opener.{partAt}
@@ -71,20 +71,16 @@ entries-inside : (k : SignalEncoding) (n i top : ℕ) (es : List Entry) → Entr
 entries-inside k n i top [] f = tt
 entries-inside k n i top (e ∷ es) f = (f .0 .inside, entries-inside k n (e .index) top es (f .1))
 
-entries-later : (k : SignalEncoding) (n i top : ℕ) (es : List Entry) → EntriesFit k n i top es → EntriesFit k n 0 top es
-entries-later k n i top [] f = tt
-entries-later k n i top (e ∷ es) f = (record { later = omega arith; inside = f .0 .inside; content = f .0 .content; class = f .0 .class }, f .1)
-
--- the entries of a signal's part, whichever classes came before
+-- the entries of a signal's part, whatever its top class
 abbrev pub SignalFits : SignalEncoding → (n : ℕ) → List Entry → Type 0
 SignalFits k n es = (top : ℕ) × EntriesFit k n 0 top es
 
-pub part-fits : (n i : ℕ) (ks : List SignalEncoding) (tops : List ℕ) (ps : List (Option (Part (List Entry)))) (g : ℕ) → PartsFit n i ks tops ps
+pub part-fits : (n : ℕ) (ks : List SignalEncoding) (ps : List (Option (Part (List Entry)))) (g : ℕ) → PartsFit n ks ps
     → SignalFits (getD ks g Absent) n (entriesIn (getD ps g none))
-part-fits n i ks tops ps g f =
+part-fits n ks ps g f =
     let k : SignalEncoding = getD ks g Absent in
     let p : Option (Part (List Entry)) = getD ps g none in
-    (topIn p, entries-later k n i (topIn p) (entriesIn p) (entries-fit k n i (getD tops g 0) p (parts-each n i ks tops ps f g)))
+    (topIn p, entries-fit k n p (parts-each n ks ps f g))
 
 -- ---- all blocks
 
@@ -97,40 +93,40 @@ times-more g l (b ∷ bs) =
     (d ++ ih .0, ih .1 ∙ append-assoc (l .times) d (ih .0))
 
 module _ (limit : ℕ) (ks : List SignalEncoding) (t g : ℕ) where
-  block-loads : (all : List ℕ) (l : Load) (y : Block (List Entry)) (rest : List ℕ) (end : Option ℕ) (tops : List ℕ) → PartsFit (length (y .times)) (firstIndex end) ks tops (y .parts)
+  block-loads : (all : List ℕ) (l : Load) (y : Block (List Entry)) (rest : List ℕ) → PartsFit (length (y .times)) ks (y .parts)
       → all ≡ joinTimes (l .times) (y .times) ++ rest
       → allPassed (y .times) t (holding all t (l .entries)) (entriesIn (partAt y g)) ≡ holding all t (loadBlock g l y .entries)
-  block-loads all l y rest end tops f e =
+  block-loads all l y rest f e =
       let es : List Entry = entriesIn (partAt y g) in
-      let q = part-fits (length (y .times)) (firstIndex end) ks tops (y .parts) g f in
+      let q = part-fits (length (y .times)) ks (y .parts) g f in
       let m : ℕ = length (l .times) - overlap (l .times) (y .times) in
       passed-moved (y .times) all t m (holding all t (l .entries)) es (λ i h. ap (λ (z : List ℕ). getD z (m + i) 0) e ∙ joined-at (l .times) (y .times) rest i h) (entries-inside _ _ 0 (q .0) es (q .1))
       ∙ passed-pushed all t (l .entries) (moved m es)
 
-  blocks-load : (all : List ℕ) (l : Load) (bs : List (Block (List Entry))) (end : Option ℕ) (tops : List ℕ) → BlocksFit limit ks end tops bs → all ≡ loadFrom g l bs .times
+  blocks-load : (all : List ℕ) (l : Load) (bs : List (Block (List Entry))) (end : Option ℕ) → BlocksFit limit ks end bs → all ≡ loadFrom g l bs .times
       → blocksPassed t g (holding all t (l .entries)) bs ≡ holding all t (loadFrom g l bs .entries)
   unfolding blocksPassed loadFrom
-  blocks-load all l [] end tops f e = refl
-  blocks-load all l (y ∷ bs) end tops f e =
+  blocks-load all l [] end f e = refl
+  blocks-load all l (y ∷ bs) end f e =
       let r = times-more g (loadBlock g l y) bs in
-      ap (λ (s : Point). blocksPassed t g s bs) (block-loads all l y (r .0) end tops (f .0 .parts) (e ∙ r .1))
-      ∙ blocks-load all (loadBlock g l y) bs (some (lastOr 0 (y .times))) (topsAfter tops (y .parts)) (f .1) e
+      ap (λ (s : Point). blocksPassed t g s bs) (block-loads all l y (r .0) (f .1 .0 .parts) (e ∙ r .1))
+      ∙ blocks-load all (loadBlock g l y) bs (some (lastOr 0 (y .times))) (f .1 .1) e
 
-  pub points-loads : (bs : List (Block (List Entry))) → BlocksFit limit ks none [] bs
+  pub points-loads : (bs : List (Block (List Entry))) → BlocksFit limit ks none bs
       → blocksPassed t g unpointed bs ≡ holding (loads g bs .times) t (loads g bs .entries)
-  points-loads bs f = blocks-load (loads g bs .times) (load [] [] 0) bs none [] f refl
+  points-loads bs f = blocks-load (loads g bs .times) (load [] [] 0) bs none f refl
 
 -- ---- a signal has no more entries in a block than the block data bytes
 
-option-short : (k : SignalEncoding) (n i before : ℕ) (p : Option (Part (List Entry))) → OptionFits k n i before p → length (entriesIn p) ≤ length (partBytes (streamedPart k p))
-option-short k n i before none f = omega arith
-option-short k n i before (some p) f = omega (arith, stream-long k n i (p .top) 0 (p .stream) (f .entries))
+option-short : (k : SignalEncoding) (n : ℕ) (p : Option (Part (List Entry))) → OptionFits k n p → length (entriesIn p) ≤ length (partBytes (streamedPart k p))
+option-short k n none f = omega arith
+option-short k n (some p) f = omega (arith, stream-long k n 0 (p .top) 0 (p .stream) (f .entries))
 
-pub parts-short : (n i : ℕ) (ks : List SignalEncoding) (tops : List ℕ) (ps : List (Option (Part (List Entry)))) (g : ℕ) → PartsFit n i ks tops ps
+pub parts-short : (n : ℕ) (ks : List SignalEncoding) (ps : List (Option (Part (List Entry)))) (g : ℕ) → PartsFit n ks ps
     → length (entriesIn (getD ps g none)) ≤ length (dataOf (streamedParts ks ps))
 unfolding dataOf streamedParts
-parts-short n i [] tops [] g f = omega arith
-parts-short n i [] tops (p ∷ ps) g f = absurd f
-parts-short n i (k ∷ ks) tops [] g f = absurd f
-parts-short n i (k ∷ ks) tops (p ∷ ps) zero f = omega (arith, length-append (partBytes (streamedPart k p)) (dataOf (streamedParts ks ps)), option-short k n i (getD tops 0 0) p (f .0))
-parts-short n i (k ∷ ks) tops (p ∷ ps) (suc g) f = omega (arith, length-append (partBytes (streamedPart k p)) (dataOf (streamedParts ks ps)), parts-short n i ks (drop 1 tops) ps g (f .1))
+parts-short n [] [] g f = omega arith
+parts-short n [] (p ∷ ps) g f = absurd f
+parts-short n (k ∷ ks) [] g f = absurd f
+parts-short n (k ∷ ks) (p ∷ ps) zero f = omega (arith, length-append (partBytes (streamedPart k p)) (dataOf (streamedParts ks ps)), option-short k n p (f .0))
+parts-short n (k ∷ ks) (p ∷ ps) (suc g) f = omega (arith, length-append (partBytes (streamedPart k p)) (dataOf (streamedParts ks ps)), parts-short n ks ps g (f .1))

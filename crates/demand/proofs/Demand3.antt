@@ -1,17 +1,22 @@
--- Demand 3, whole: every list of a recording's calls, from an accepted start to an accepted finish, leaves an image that loads as the list's
--- history; and the opener accepts exactly what some such list leaves.
+-- Demand 3, whole.
 -- Assumes nothing.
 use Prim.Native.Nat.{ℕ}
-use mathlib.Core.Path.{_≡_, sym, ap, _∙_}
-use mathlib.Core.Bool.{true}
 use mathlib.Core.List.{List}
-use Rattle.loaded.specs.Opener.{openOf}
-use Rattle.demand.specs.Demand3.{Leaves, Demand3}
-use Rattle.demand.proofs.LoadsLaws.{recorded-loads, recorded-answers, recorded-count}
-use Rattle.demand.proofs.LeavesLaws.{accepted-leaves}
+use Rattle.signal.specs.declared.kind.SignalEncoding.{SignalEncoding}
+use Rattle.history.specs.History.{History}
+use Rattle.demand.specs.Demand3.{Tells, left, join, Demand3}
+use Rattle.demand.proofs.LoadsLaws.{Told, told-loads, recorded-told, recorded-answers, recorded-count}
+use Rattle.demand.proofs.JoinLaws.{told-join}
+use Rattle.demand.proofs.TellsLaws.{accepted-tells}
 
-left-opens : (b : List ℕ) → Leaves b → openOf b ≡ true
-left-opens b l = sym (ap openOf (l .left)) ∙ recorded-loads (l .limit) (l .signals) (l .memory) (l .calls) (l .size) (l .list) .opens
+pub tells-told : (ks : List SignalEncoding) (h : History) (b : List ℕ) → Tells ks h b → Told ks h b
+tells-told _ _ _ (left limit signals m calls size r) = recorded-told limit signals m calls size r
+tells-told _ _ _ (join ks ls h k a b out size s t e) = told-join ks ls h k a b out size (tells-told ks h a s) (tells-told ls k b t) e
 
 pub demand : Demand3
-demand = record { loads = recorded-loads; answers = recorded-answers; count = recorded-count; accepted = accepted-leaves; only = left-opens }
+demand = record {
+  loads = λ ks h b t. told-loads ks h b (tells-told ks h b t);
+  answers = recorded-answers;
+  count = recorded-count;
+  accepted = accepted-tells;
+}

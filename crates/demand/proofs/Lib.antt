@@ -1,5 +1,6 @@
 pub mod RunLoads
 pub mod LoadsLaws
-pub mod LeavesLaws
+pub mod JoinLaws
+pub mod TellsLaws
 pub mod Demand3
 pub mod PowerLoss

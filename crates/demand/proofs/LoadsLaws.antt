@@ -1,4 +1,5 @@
--- What an accepted finish leaves loads as the list's history; the answers and the skipped count are that history's.
+-- Bytes that tell a history load as it, and what an accepted finish leaves tells the list's; the answers and the skipped count are that
+-- history's too.
 -- Assumes nothing.
 use Prim.Native.Nat.{ℕ, _≤_, _<_}
 use mathlib.Core.Path.{_≡_, refl, sym, ap, _∙_, subst}
@@ -13,23 +14,25 @@ use Rattle.lists.specs.Choice.{pick, isSome}
 use Rattle.signal.specs.declared.kind.SignalEncoding.{SignalEncoding}
 use Rattle.signal.specs.declared.kind.SignalEncoding.the-variants.{BitVector, Real, Absent}
 use Rattle.signal.specs.Kind.{absent}
-use Rattle.image.specs.Image.{Image}
-use Rattle.codec.specs.Valid.{Rising}
+use Rattle.stream.specs.Entries.{Entry}
+use Rattle.image.specs.Block.{Block}
+use Rattle.image.specs.Image.{Image, image, imageBytes}
+use Rattle.codec.specs.Valid.{Rising, Valid}
 use Rattle.codec.specs.Parse.{parse}
 use Rattle.codec.proofs.Trip.{parse-of}
-use Rattle.recording.specs.Calls.{Call, finish, refusals, heard}
+use Rattle.recording.specs.Calls.{Call, finish, heard}
 use Rattle.recording.specs.Memory.{Memory, After, Tests, guarded, refused}
 use Rattle.recording.specs.Refusals.{openTests}
 use Rattle.recording.specs.Step.{Cut, noCut, cuts, cutOf, closing, finishCut, finishOf, startOf, step, kindsOf}
-use Rattle.history.specs.History.{History, noHistory, kept, listOf, topOf, keptOf, classOf}
+use Rattle.history.specs.History.{History, noHistory, listOf, topOf, keptOf, classOf}
 use Rattle.loaded.specs.Opener.{kindAt}
-use Rattle.loaded.specs.Loading.{tableFrom, Load, load, loads, signalClass}
+use Rattle.loaded.specs.Loading.{tableFrom, pushed, Load, load, loads, signalClass}
 use Rattle.loaded.specs.EntryBytes.{entriesBytes}
 use Rattle.loaded.specs.Reader.{unknownSignal, loadIn, loadBy, loadOf, loadAfter, loaded, indexIn, tableIn, tableBy, tableOf, tableAfter, counted}
 use Rattle.loaded.specs.Reader as reader
-use Rattle.model.specs.Model.{Chunk, noModel}
-use Rattle.model.proofs.HistoryLaws.{history-rising}
-use Rattle.model.proofs.LoadLaws.{load-image, table-image, class-kept}
+use Rattle.model.specs.Model.{Chunk, noChunk, noModel, told}
+use Rattle.model.proofs.LoadLaws.{pushed-kept, allFrom, view, dropped, all-from, drop-from, table-image, class-kept}
+use Rattle.model.proofs.AfterLaws.{table-rises}
 use Rattle.follow.proofs.ImageRep.{imageFor}
 use Rattle.follow.proofs.OpenLaws.{pick-false, or-false}
 use Rattle.follow.proofs.Start.{start-taken, known-kinds}
@@ -63,21 +66,31 @@ not-absent (BitVector w) h = refl
 not-absent Real h = refl
 not-absent Absent h = absurd (h refl)
 
--- ---- the bytes of a valid image whose blocks join to a history
+-- ---- the bytes of a valid image, and what its blocks tell
 
-module _ (limit : ℕ) (ks : List SignalEncoding) (h : History) (b : List ℕ) (f : Finished limit ks h b) where
-  parsed : parse b ≡ some (imageFor limit ks (f .model .blocks))
-  parsed = ap parse (sym (f .bytes-are)) ∙ parse-of (imageFor limit ks (f .model .blocks)) (f .valid)
+pub record Told (ks : List SignalEncoding) (h : History) (b : List ℕ) : Type 0 where
+  pub limit : ℕ
+  pub blocks : List (Block (List Entry))
+  pub valid : Valid (image limit ks blocks)
+  pub bytes : imageBytes (image limit ks blocks) ≡ b
+  pub table : tableFrom [] blocks ≡ h .times
+  pub all : (g : ℕ) → g < length ks → allFrom g (load [] [] 0) blocks ≡ view g (told h)
+
+module _ (ks : List SignalEncoding) (h : History) (b : List ℕ) (f : Told ks h b) where
+  abbrev x : Image
+  x = image (f .limit) ks (f .blocks)
+
+  pub parsed : parse b ≡ some x
+  parsed = ap parse (sym (f .bytes)) ∙ parse-of x (f .valid)
 
   table-loads : (out : List ℕ) → length (h .times) ≤ length out → tableOf b out ≡ tableAfter (counted (length (h .times))) (sets out 0 (h .times))
-  table-loads out l =
-      ap (λ (o : Option Image). tableBy o out) parsed
-      ∙ table-is (imageFor limit ks (f .model .blocks)) (h .times) out (table-image (length ks) (f .model .blocks) ∙ ap (λ (c : Chunk). c .times) (f .held)) l
+  table-loads out l = ap (λ (o : Option Image). tableBy o out) parsed ∙ table-is x (h .times) out (f .table) l
 
-  signal-load : (g : ℕ) → g < length ks → loads g (imageFor limit ks (f .model .blocks) .blocks) ≡ load (h .times) (keptOf h g) (topOf g (h .changes))
+  signal-load : (g : ℕ) → g < length ks → loads g (f .blocks) ≡ load (h .times) (keptOf h g) (topOf g (h .changes))
+  unfolding pushed
   signal-load g l =
-      load-image (length ks) g (f .model .blocks) l
-      ∙ ap (λ (c : Chunk). load (c .times) (kept (listOf g (c .changes))) (topOf g (c .changes))) (f .held)
+      drop-from g (f .blocks) (load [] [] 0) ∙ ap dropped (f .all g l)
+      ∙ ap (λ (es : List Entry). load (h .times) es (topOf g (h .changes))) (pushed-kept (listOf g (h .changes)))
 
   class-is : (g : ℕ) → signalClass (load (h .times) (keptOf h g) (topOf g (h .changes))) ≡ classOf h g
   class-is g = class-kept (listOf g (h .changes)) (topOf g (h .changes))
@@ -87,7 +100,6 @@ module _ (limit : ℕ) (ks : List SignalEncoding) (h : History) (b : List ℕ) (
       → loadOf b g index bytes
       ≡ loadAfter (loaded (length (keptOf h g)) (classOf h g)) (sets index 0 (map indexIn (keptOf h g))) (sets bytes 0 (keptBytes ks h g))
   signal-loads g index bytes l a i j =
-      let x : Image = imageFor limit ks (f .model .blocks) in
       let c = class-is g in
       let u : unknownSignal x g ≡ false = or-false (leb (length ks) g) (absent (getD ks g Absent)) (lt-leb (length ks) g l) (not-absent (getD ks g Absent) a) in
       ap (λ (o : Option Image). loadBy o g index bytes) parsed
@@ -95,8 +107,25 @@ module _ (limit : ℕ) (ks : List SignalEncoding) (h : History) (b : List ℕ) (
       (subst (λ (n : ℕ). length (entriesBytes (getD ks g Absent) n (keptOf h g)) ≤ length bytes) (sym c) j)
       ∙ ap (λ (n : ℕ). loadAfter (loaded (length (keptOf h g)) n) (sets index 0 (map indexIn (keptOf h g))) (sets bytes 0 (entriesBytes (getD ks g Absent) n (keptOf h g)))) c
 
-  pub finished-loads : Rising (h .times) → LoadsAs ks h b
-  finished-loads r = record { opens = ap (λ (o : Option Image). isSome o) parsed; rising = r; table = table-loads; signals = signal-loads }
+  pub told-loads : LoadsAs ks h b
+  told-loads = record {
+    opens = ap (λ (o : Option Image). isSome o) parsed;
+    rising = subst Rising (f .table) (table-rises (f .limit) ks (f .blocks) (f .valid .blocks));
+    table = table-loads;
+    signals = signal-loads;
+  }
+
+-- finished blocks that join to a history tell it
+pub finished-told : (limit : ℕ) (ks : List SignalEncoding) (h : History) (b : List ℕ) → Finished limit ks h b → Told ks h b
+unfolding listOf topOf
+finished-told limit ks h b f = record {
+  limit = limit;
+  blocks = imageFor limit ks (f .model .blocks) .blocks;
+  valid = f .valid;
+  bytes = f .bytes-are;
+  table = table-image (length ks) (f .model .blocks) ∙ ap (λ (c : Chunk). c .times) (f .held);
+  all = λ g l. all-from (length ks) g (f .model .blocks) noChunk [] l refl ∙ ap (view g) (f .held);
+}
 
 -- ---- a finish leaves the skipped count
 
@@ -130,13 +159,12 @@ module _ (limit signals : ℕ) (m : Memory) (calls : List Call) (size : ℕ) (r 
       run-follows limit (kindsOf (m .records)) calls (startOf limit signals m .memory) noModel noHistory (r .fitting)
       (start-stands limit signals m (start-taken limit signals m (r .start)))
 
-  pub recorded-loads : LoadsAs (kindsOf (m .records)) (historyOf limit signals m calls .last) (leftBy limit signals m calls size)
-  recorded-loads =
+  pub recorded-told : Told (kindsOf (m .records)) (historyOf limit signals m calls .last) (leftBy limit signals m calls size)
+  recorded-told =
       let e = follows in
       let k = known-kinds (m .records) (start-taken limit signals m (r .start) .known) in
-      finished-loads limit (kindsOf (m .records)) (historyOf limit signals m calls .last) (leftBy limit signals m calls size)
+      finished-told limit (kindsOf (m .records)) (historyOf limit signals m calls .last) (leftBy limit signals m calls size)
       (finish-leaves limit (kindsOf (m .records)) (ranFrom limit signals m calls .last) (e .model) (historyOf limit signals m calls .last) size k (e .stands) (r .end))
-      (history-rising (kindsOf (m .records)) calls noHistory (refusals (ranFrom limit signals m calls .replies)) tt)
 
   pub recorded-answers : heard (ranFrom limit signals m calls .replies) ≡ historyOf limit signals m calls .answers
   recorded-answers = follows .answers

@@ -12,21 +12,20 @@ use lib.Dec.{eqb}
 use Rattle.lists.specs.Choice.{pick}
 use Rattle.signal.specs.declared.kind.SignalEncoding.{SignalEncoding}
 use Rattle.codec.specs.Valid.{KnownKinds, BlocksFit}
-use Rattle.codec.proofs.Growth.{full-fit}
 use Rattle.recording.specs.Calls.{Call, CallFits, Fitting, started, isRefusal, refusals}
 use Rattle.recording.specs.Memory.{Memory}
 use Rattle.recording.specs.Step.{startOf, step, run, kindsOf}
 use Rattle.history.specs.History.{History, noHistory, tell, tellAll}
 use Rattle.model.specs.Model.{Chunk, noChunk, joined, Model, noModel, modelStep, imageOf, told}
 use Rattle.model.proofs.JoinLaws.{joined-append}
-use Rattle.model.proofs.HistoryLaws.{Same, history-rising}
+use Rattle.model.proofs.HistoryLaws.{Same}
 use Rattle.model.proofs.ValidLaws as valid
 use Rattle.follow.proofs.Rep.{Rep}
 use Rattle.follow.proofs.Growth.{Grown, kept, ended, step-grown}
 use Rattle.follow.proofs.Start.{start-taken, known-kinds}
 use Rattle.follow.proofs.Whole.{Stands, step-stands, start-stands, Finished, image-valid}
 use Rattle.demand.specs.Demand3.{ranFrom, historyOf, LoadsAs, callsIn, PowerLoss}
-use Rattle.demand.proofs.LoadsLaws.{finished-loads}
+use Rattle.demand.proofs.LoadsLaws.{told-loads, finished-told}
 
 -- what is finished by a cut is all that was recorded
 cut-held : (p : Model) (h : History) → Same p h → joined noChunk (p .blocks ++ p .now ∷ []) ≡ told h
@@ -86,12 +85,12 @@ module _ (limit : ℕ) (ks : List SignalEncoding) (m₀ : Memory) where
       record { model = e .model; rep = e .rep; good = e .good; joins = e .joins }
 
   -- finished blocks alone are those of a valid image, closed or not
-  good-fit : (p : Model) → valid.Good limit ks p → BlocksFit limit ks none [] (imageOf (length ks) [] (p .blocks))
+  good-fit : (p : Model) → valid.Good limit ks p → BlocksFit limit ks none (imageOf (length ks) [] (p .blocks))
   good-fit p g = go (p .closed) refl
     where
-      go : (b : Bool) → p .closed ≡ b → BlocksFit limit ks none [] (imageOf (length ks) [] (p .blocks))
+      go : (b : Bool) → p .closed ≡ b → BlocksFit limit ks none (imageOf (length ks) [] (p .blocks))
       go true e = g .shut e
-      go false e = full-fit limit ks none [] (imageOf (length ks) [] (p .blocks)) (g .well e .full)
+      go false e = g .well e .done
 
   used-finished : (cs held : List Call) → KnownKinds ks → Ended cs held m₀ → Finished limit ks (since held) (take (run m₀ cs .last .state .image) (run m₀ cs .last .image))
   used-finished cs held n e = record {
@@ -112,9 +111,8 @@ module _ (limit signals : ℕ) (m : Memory) (calls : List Call) (fit : Fitting c
       let ks : List SignalEncoding = kindsOf (m .records) in
       let s : Memory = startOf limit signals m .memory in
       let held : List Call = callsIn s [] [] calls in
-      finished-loads limit ks (historyOf limit signals m held .last) (take (ranFrom limit signals m calls .last .state .image) (ranFrom limit signals m calls .last .image))
-      (used-finished limit ks s calls held (known-kinds (m .records) (start-taken limit signals m start .known)) (run-held limit ks s calls s noModel noHistory [] [] fit begun))
-      (history-rising ks held noHistory (refusals (ranFrom limit signals m held .replies)) tt)
+      told-loads ks (historyOf limit signals m held .last) (take (ranFrom limit signals m calls .last .state .image) (ranFrom limit signals m calls .last .image))
+      (finished-told limit ks (historyOf limit signals m held .last) (take (ranFrom limit signals m calls .last .state .image) (ranFrom limit signals m calls .last .image)) (used-finished limit ks s calls held (known-kinds (m .records) (start-taken limit signals m start .known)) (run-held limit ks s calls s noModel noHistory [] [] fit begun)))
 
 pub power-loss : PowerLoss
 power-loss = record { used = λ limit signals m calls fit start. used-loads limit signals m calls fit start }

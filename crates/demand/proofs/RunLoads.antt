@@ -35,7 +35,7 @@ use Rattle.history.specs.History.{Telling, noHistory, tell, tellAll, listOf, ke
 use Rattle.form.specs.Form.{repeat, each, getChain}
 use Rattle.codec.specs.Layout.{lengths, layoutForm}
 use Rattle.codec.specs.ImageForm.{stream, blockForm, headForm, imageForm}
-use Rattle.codec.specs.Valid.{risingFrom?, rising?, eachBelow?, knownKinds?, contentFits?, entryFits?, entriesFit?, partFits?, partsFit?, begins?, filled?, blockFits?, blocksFit?, valid?}
+use Rattle.codec.specs.Valid.{risingFrom?, rising?, eachBelow?, knownKinds?, contentFits?, entryFits?, entriesFit?, partFits?, partsFit?, starts?, blockFits?, blocksFit?, valid?}
 use Rattle.codec.specs.Parse.{parse}
 use Rattle.loaded.specs.Opener.{openOf}
 use Rattle.loaded.specs.Loading.{tableFrom, moved, repeatsLast, pushed, loadFrom}
@@ -154,5 +154,5 @@ pub mixed-loads : (openOf mixedImage ≡ true)
     × (loadOf mixedImage 1 (9 ∷ 9 ∷ []) [] ≡ loadAfter (loaded 2 0) (0 ∷ 2 ∷ []) [])
     × (loadOf mixedImage 2 (9 ∷ 9 ∷ []) (replicate 16 9) ≡ loadAfter (loaded 2 0) (1 ∷ 1 ∷ []) (0 ∷ 0 ∷ 0 ∷ 0 ∷ 0 ∷ 0 ∷ 0 ∷ 0x80 ∷ replicate 8 0))
     × (loadOf mixedImage 3 (9 ∷ []) (9 ∷ []) ≡ loadAfter (reader.refuse 4) (9 ∷ []) (9 ∷ []))
-unfolding les parse imageForm headForm blockForm layoutForm repeat each lengths unle readLeb stream getChain readChange valueAfter unpacked classOfAll allSymbols digits numberOf lastOr imageBytes blocksBytes streamedParts streamBytes headBytes blockBytes dataOf offsetsFrom le lebOf groups changeBytes packed risingFrom? rising? eachBelow? knownKinds? contentFits? entryFits? entriesFit? partFits? partsFit? begins? filled? blockFits? blocksFit? valid? tableFrom tableIn moved repeatsLast pushed loadFrom entryBytes entriesBytes loadIn same
+unfolding les parse imageForm headForm blockForm layoutForm repeat each lengths unle readLeb stream getChain readChange valueAfter unpacked classOfAll allSymbols digits numberOf lastOr imageBytes blocksBytes streamedParts streamBytes headBytes blockBytes dataOf offsetsFrom le lebOf groups changeBytes packed risingFrom? rising? eachBelow? knownKinds? contentFits? entryFits? entriesFit? partFits? partsFit? starts? blockFits? blocksFit? valid? tableFrom tableIn moved repeatsLast pushed loadFrom entryBytes entriesBytes loadIn same
 mixed-loads = (refl, refl, refl, refl, refl, refl)

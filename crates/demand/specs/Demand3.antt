@@ -1,6 +1,6 @@
--- Demand 3 of document 00: what a list of a recording's calls leaves loads as the list's history. It is stated over the
--- definitions that the contracts cite: startOf, and step and run, which are made of timeOf, changeOf and finishOf (crate recording); openOf,
--- loadOf and tableOf (loaded); and over the history (history).
+-- Demand 3 of document 00: what a list of a recording's calls leaves loads as the list's history; with document 02's joins: what is joined loads
+-- as one history after the other. It is stated over the definitions that the contracts cite: startOf, and step and run, which are made of
+-- timeOf, changeOf and finishOf (crate recording); joinOf (joined); openOf, loadOf and tableOf (loaded); and over the history (history).
 -- Assumes nothing.
 use Prim.Native.Nat.{ℕ, _≤_, _<_, _*_, _^_}
 use mathlib.Core.Path.{_≡_}
@@ -21,9 +21,11 @@ use Rattle.recording.specs.Calls.{Call, finish, started, total, refusals, heard
 use Rattle.recording.specs.Memory.{Memory}
 use Rattle.recording.specs.Step.{startOf, step, run, Ran, kindsOf}
 use Rattle.history.specs.History.{History, noHistory, Telling, tellAll, keptOf, classOf}
+use Rattle.history.specs.Followed.{followed}
 use Rattle.loaded.specs.Opener.{openOf}
 use Rattle.loaded.specs.EntryBytes.{entriesBytes}
 use Rattle.loaded.specs.Reader.{loadOf, loadAfter, loaded, indexIn, tableOf, tableAfter, counted}
+use Rattle.joined.specs.Join.{joined, joinOf}
 
 -- a state and a record as their types can hold them
 pub record StateFits (s : Encoder) : Type 0 where
@@ -90,28 +92,23 @@ pub record LoadsAs (ks : List SignalEncoding) (h : History) (b : List ℕ) : Typ
       → loadOf b g index bytes
       ≡ loadAfter (loaded (length (keptOf h g)) (classOf h g)) (sets index 0 (map indexIn (keptOf h g))) (sets bytes 0 (keptBytes ks h g))
 
--- some such list leaves the bytes
-pub record Leaves (b : List ℕ) : Type 0 where
-  pub limit : ℕ
-  pub signals : ℕ
-  pub memory : Memory
-  pub calls : List Call
-  pub size : ℕ
-  pub list : Recorded limit signals memory calls size
-  pub left : leftBy limit signals memory calls size ≡ b
+-- "left by a list of calls, or joined from accepted images": what such bytes tell, by kinds and history
+pub data Tells : List SignalEncoding → History → List ℕ → Type 0 where
+  left : (limit signals : ℕ) (m : Memory) (calls : List Call) (size : ℕ) → Recorded limit signals m calls size
+      → Tells (kindsOf (m .records)) (historyOf limit signals m calls .last) (leftBy limit signals m calls size)
+  join : (ks ls : List SignalEncoding) (h k : History) (a b out : List ℕ) (size : ℕ) → Tells ks h a → Tells ls k b
+      → joinOf a b out .reply ≡ joined size → Tells ks (followed h k) (take size (joinOf a b out .out))
 
 pub record Demand3 : Type 0 where
-  -- "the image left loads as exactly the list's history in document 01"
-  pub loads : (limit signals : ℕ) (m : Memory) (calls : List Call) (size : ℕ) → Recorded limit signals m calls size
-      → LoadsAs (kindsOf (m .records)) (historyOf limit signals m calls .last) (leftBy limit signals m calls size)
+  -- "the image left loads as exactly the list's history in document 01"; "A joined image loads as one history after the other"
+  pub loads : (ks : List SignalEncoding) (h : History) (b : List ℕ) → Tells ks h b → LoadsAs ks h b
   -- "The answers of times and changes that are no refusals, and the skipped count, are that history's too"
   pub answers : (limit signals : ℕ) (m : Memory) (calls : List Call) (size : ℕ) → Recorded limit signals m calls size
       → heard (ranFrom limit signals m calls .replies) ≡ historyOf limit signals m calls .answers
   pub count : (limit signals : ℕ) (m : Memory) (calls : List Call) (size : ℕ) → Recorded limit signals m calls size
       → step (ranFrom limit signals m calls .last) finish .memory .state .skipped ≡ historyOf limit signals m calls .last .count
-  -- "The opener accepts a byte string exactly when some such list leaves it"
-  pub accepted : (b : List ℕ) → Bytes b → openOf b ≡ true → Leaves b
-  pub only : (b : List ℕ) → Leaves b → openOf b ≡ true
+  -- the opener accepts exactly these: each by `opens` of what `loads` says, and no others
+  pub accepted : (b : List ℕ) → Bytes b → openOf b ≡ true → (ks : List SignalEncoding) × (h : History) × Tells ks h b
 
 -- beyond the demand: what a recording without a finish leaves, as when a unit loses its power. The calls that are in the image are those
 -- before the last one that cut a block (none before any cut). `held` are those found so far, `done` all calls before the list

@@ -3,6 +3,7 @@ use crate::length::wide_len;
 use crate::read::bit_in;
 use crate::read::bits_in;
 use crate::read::states_in;
+use copy::put_part;
 use numbers::little_endian::put_u64;
 use packed::bytes_required;
 use signal::decode::ChangeValue;
@@ -12,7 +13,7 @@ use value::symbol::Bit;
 ghost use mathlib.Core.Path.{_≡_};
 ghost use mathlib.Core.List.{_∷_, []};
 ghost use Prim.Native.Nat.{_+_, _*_, _≤_, _<_};
-ghost use lib.ListN.{length, take, drop, getD, replicate, set};
+ghost use lib.ListN.{length, getD, replicate, set};
 ghost use lib.Seq.{sets};
 ghost use Rattle.value.specs.Class.{classNumber, classOf, classOfAll};
 ghost use Rattle.signal.specs.Content.{symbolsOf};
@@ -27,19 +28,6 @@ fn put_zeros(out: &mut [u8], at: usize, count: usize) -> usize
     let mut i = 0;
     while i < count {
         out[at + i] = 0;
-        i += 1;
-    }
-    at + count
-}
-
-// Copies count bytes of src from a place on.
-fn put_part(out: &mut [u8], at: usize, src: &[u8], from: usize, count: usize) -> usize
-    requires { ⌜ (at + count ≤ length (now out)) × (from + count ≤ length (now src)) ⌝ }
-    ensures { λ r. ⌜ (r ≡ at + count) × (now (out .exit) ≡ sets (now (out .entry)) at (take count (drop from (now (src .entry))))) ⌝ }
-{
-    let mut i = 0;
-    while i < count {
-        out[at + i] = src[from + i];
         i += 1;
     }
     at + count

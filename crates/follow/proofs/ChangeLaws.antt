@@ -20,7 +20,7 @@ use Rattle.signal.specs.Kind.{knownKind, absent}
 use Rattle.signal.specs.Content.{Content, happened, symbols, bits, symbolsOf, realBits, ContentFits}
 use Rattle.stream.specs.Stream.{changeBytes}
 use Rattle.stream.specs.Entries.{Entry, entry}
-use Rattle.codec.specs.Full.{lastIndex}
+use Rattle.codec.specs.Ends.{lastIndex}
 use Rattle.history.specs.History.{Change, listOf, topOf}
 use Rattle.model.proofs.LoadLaws.{list-append, top-append}
 use Rattle.follow.specs.Marked.{marked}

@@ -1,10 +1,10 @@
--- Every valid image is left by its rebuilt list of calls and a finish, given room.
+-- Every image of one block that fits, or of none, is left by its rebuilt list of calls and a finish, given room.
 -- Assumes nothing.
 use Prim.Native.Nat.{ℕ, _+_, _*_, _≤_, _<_}
 use mathlib.Core.Path.{_≡_, refl, sym, ap, _∙_, subst}
 use mathlib.Core.Bool.{Bool, false}
 use mathlib.Core.List.{List, [], _∷_, _++_}
-use mathlib.Core.Option.{none}
+use mathlib.Core.Option.{Option, some, none}
 use native.Mathlib.Omega.{arith}
 use lib.ListN.{length, take}
 use lib.Seq.{length-sets}
@@ -13,7 +13,7 @@ use Rattle.stream.specs.Entries.{Entry}
 use Rattle.image.specs.Block.{Block}
 use Rattle.image.specs.Head.{headSize}
 use Rattle.image.specs.Image.{image, blocksBytes, imageBytes}
-use Rattle.codec.specs.Valid.{BlocksFit}
+use Rattle.codec.specs.Valid.{BlockFits}
 use Rattle.recording.specs.Calls.{Call, finish, Fitting, total, isRefusal}
 use Rattle.recording.specs.Memory.{Memory, After}
 use Rattle.recording.specs.Step.{startOf, step, run, kindsOf}
@@ -44,16 +44,23 @@ finish-live limit ks bs o p e f h = ap (λ (b : Bool). close (pick b p (cut p)) 
     timed [] k = absurd (omega arith)
     timed (x ∷ l) k = refl
 
-rebuilds : (limit : ℕ) (ks : List SignalEncoding) (ss : List (Block (List Entry))) → 0 < limit → BlocksFit limit ks none [] ss → Rebuilds limit ks (imageCalls ks ss) ss
-unfolding imageCalls
-rebuilds limit ks [] pos v = record { proper = tt; up = unfold modelRun in refl; blocks = unfold modelRun modelStep imageOf in refl }
-rebuilds limit ks (s ∷ ss) pos v =
-    let b = rebuild limit ks s ss pos v in
+abbrev pub blocksIn : Option (Block (List Entry)) → List (Block (List Entry))
+blocksIn none = []
+blocksIn (some s) = s ∷ []
+
+abbrev pub OneFits : (limit : ℕ) → List SignalEncoding → Option (Block (List Entry)) → Type 0
+OneFits limit ks none = Unit {0}
+OneFits limit ks (some s) = BlockFits limit ks s
+
+rebuilds : (limit : ℕ) (ks : List SignalEncoding) (o : Option (Block (List Entry))) → 0 < limit → OneFits limit ks o → Rebuilds limit ks (imageCalls ks o) (blocksIn o)
+rebuilds limit ks none pos v = record { proper = tt; up = unfold modelRun in refl; blocks = unfold modelRun modelStep imageOf in refl }
+rebuilds limit ks (some s) pos v =
+    let b = rebuild limit ks s pos v in
     let e = b .takes .run in
     record {
       proper = b .takes .proper;
       up = ap (λ (p : Model). p .closed) e;
-      blocks = ap (imageOf (length ks) []) (finish-live limit ks (b .blocks) (chunk (b .times) (b .marks)) _ (ap (λ (p : Model). p .blocks) e) (ap (λ (p : Model). p .now) e) (b .any)) ∙ b .image;
+      blocks = ap (imageOf (length ks) []) (finish-live limit ks [] (chunk (b .times) (b .marks)) _ (ap (λ (p : Model). p .blocks) e) (ap (λ (p : Model). p .now) e) (b .any)) ∙ b .image;
     }
 
 -- what the memory after a finish that answers `size` holds
@@ -90,15 +97,15 @@ module _ (limit : ℕ) (ks : List SignalEncoding) (cs : List Call) (ss : List (B
       finish-left (run m cs .last) (a .0) (rw (a .1) h)
 
 -- from a start that is taken, with the work and image that the list wants
-pub left : (limit signals : ℕ) (m : Memory) (ss : List (Block (List Entry))) → Startable limit signals m → BlocksFit limit (kindsOf (m .records)) none [] ss
-    → Fitting (imageCalls (kindsOf (m .records)) ss)
-    → headSize (length (kindsOf (m .records))) + length (blocksBytes (kindsOf (m .records)) ss) ≤ length (m .image)
-    → length (imageCalls (kindsOf (m .records)) ss) * mostBytes ≤ length (m .work)
-    → LeftBy limit (kindsOf (m .records)) ss (run (startOf limit signals m .memory) (imageCalls (kindsOf (m .records)) ss) .last)
-left limit signals m ss s v fit h f =
+pub left : (limit signals : ℕ) (m : Memory) (o : Option (Block (List Entry))) → Startable limit signals m → OneFits limit (kindsOf (m .records)) o
+    → Fitting (imageCalls (kindsOf (m .records)) o)
+    → headSize (length (kindsOf (m .records))) + length (blocksBytes (kindsOf (m .records)) (blocksIn o)) ≤ length (m .image)
+    → length (imageCalls (kindsOf (m .records)) o) * mostBytes ≤ length (m .work)
+    → LeftBy limit (kindsOf (m .records)) (blocksIn o) (run (startOf limit signals m .memory) (imageCalls (kindsOf (m .records)) o) .last)
+left limit signals m o s v fit h f =
     let ks : List SignalEncoding = kindsOf (m .records) in
     let e : startOf limit signals m .memory ≡ begun limit signals m = ap (λ (x : After). x .memory) (start-is limit signals m s) in
     let l : length (startOf limit signals m .memory .image) ≡ length (m .image) = ap (λ (x : Memory). length (x .image)) e ∙ simp length-sets in
     let w : length (startOf limit signals m .memory .work) ≡ length (m .work) = ap (λ (x : Memory). length (x .work)) e in
-    let b = rebuilds limit ks ss (omega (arith, s .low)) v in
-    run-left limit ks (imageCalls ks ss) ss b (startOf limit signals m .memory) fit (start-rep limit signals m s) (ap (λ (x : Memory). x .state .work) e) (rw l h) (rw w f)
+    let b = rebuilds limit ks o (omega (arith, s .low)) v in
+    run-left limit ks (imageCalls ks o) (blocksIn o) b (startOf limit signals m .memory) fit (start-rep limit signals m s) (ap (λ (x : Memory). x .state .work) e) (rw l h) (rw w f)

@@ -1,4 +1,4 @@
--- The calls rebuilt from a valid image are no more than its blocks' bytes: a time takes eight, and a change one at least.
+-- The calls rebuilt from a block that fits are no more than its bytes: a time takes eight, and a change one at least.
 -- Assumes nothing.
 use Prim.Native.Nat.{ℕ, suc, _+_, _≤_}
 use mathlib.Core.Path.{_≡_, refl, ap}
@@ -6,19 +6,18 @@ use mathlib.Core.Bool.{Bool, true, false}
 use mathlib.Core.List.{List, [], _∷_}
 use mathlib.Core.Option.{Option, some, none}
 use native.Mathlib.Omega.{arith}
-use lib.ListN.{length, getD, drop, length-append}
+use lib.ListN.{length, length-append}
 use lib.Dec.{eqb}
 use Rattle.lists.specs.Choice.{pick}
-use Rattle.lists.specs.Last.{lastOr}
 use Rattle.signal.specs.declared.kind.SignalEncoding.{SignalEncoding}
 use Rattle.stream.specs.Entries.{Entry}
 use Rattle.image.specs.Block.{Part, Block, partBytes, dataOf, blockBytes}
-use Rattle.image.specs.Image.{streamedPart, streamedParts, streamed, blocksBytes}
+use Rattle.image.specs.Image.{streamedPart, streamedParts, streamed}
 use Rattle.image.proofs.SizeLaws.{block-size}
-use Rattle.codec.specs.Valid.{OptionFits, PartsFit, topsAfter, firstIndex, BlockFits, BlocksFit}
+use Rattle.codec.specs.Valid.{OptionFits, PartsFit, BlockFits}
 use Rattle.codec.proofs.StreamLaws.{stream-long}
 use Rattle.recording.specs.Calls.{time}
-use Rattle.model.proofs.Rebuild.{bare, bares, front, behind, restOf, callsOf, roundCalls, blockCalls, firstCalls, laterCalls, restCalls, imageCalls}
+use Rattle.model.proofs.Rebuild.{bare, bares, front, behind, restOf, callsOf, roundCalls, blockCalls, firstCalls, imageCalls}
 
 -- how many entries parts have
 unfoldable entriesIn : List (Part (List Entry)) → ℕ
@@ -58,12 +57,6 @@ module _ (ks : List SignalEncoding) where
   block-calls (t ∷ ts) i ps =
       omega (arith, length-append (roundCalls ks i 0 ps) (time t ∷ blockCalls ks (suc i) ts (restOf i ps)), round-count i 0 ps, block-calls ts (suc i) (restOf i ps))
 
-  later-count : (ts : List ℕ) (ps : List (Part (List Entry))) → length (laterCalls ks ts ps) ≤ length ts + entriesIn ps
-  unfolding laterCalls
-  later-count [] ps = omega arith
-  later-count (x ∷ []) ps = omega arith
-  later-count (x ∷ t ∷ ts) ps = omega (arith, block-calls ts 1 ps)
-
   first-count : (ts : List ℕ) (ps : List (Part (List Entry))) → length (firstCalls ks ts ps) ≤ length ts + entriesIn ps
   unfolding firstCalls
   first-count [] ps = omega arith
@@ -71,48 +64,18 @@ module _ (ks : List SignalEncoding) where
 
   -- ---- entries against bytes
 
-  part-long : (k : SignalEncoding) (n i before : ℕ) (p : Option (Part (List Entry))) → OptionFits k n i before p
-      → length (bare p .stream) ≤ length (partBytes (streamedPart k p))
-  part-long k n i before none f = omega arith
-  part-long k n i before (some p) f = omega (arith, stream-long k n i (p .top) 0 (p .stream) (f .entries))
+  part-long : (k : SignalEncoding) (n : ℕ) (p : Option (Part (List Entry))) → OptionFits k n p → length (bare p .stream) ≤ length (partBytes (streamedPart k p))
+  part-long k n none f = omega arith
+  part-long k n (some p) f = omega (arith, stream-long k n 0 (p .top) 0 (p .stream) (f .entries))
 
-  parts-long : (n i : ℕ) (qs : List SignalEncoding) (tops : List ℕ) (ps : List (Option (Part (List Entry)))) → PartsFit n i qs tops ps
-      → entriesIn (bares ps) ≤ length (dataOf (streamedParts qs ps))
+  parts-long : (n : ℕ) (qs : List SignalEncoding) (ps : List (Option (Part (List Entry)))) → PartsFit n qs ps → entriesIn (bares ps) ≤ length (dataOf (streamedParts qs ps))
   unfolding entriesIn bares dataOf streamedParts
-  parts-long n i [] tops [] f = omega arith
-  parts-long n i [] tops (p ∷ ps) f = absurd f
-  parts-long n i (k ∷ qs) tops [] f = absurd f
-  parts-long n i (k ∷ qs) tops (p ∷ ps) f =
-      omega (arith, length-append (partBytes (streamedPart k p)) (dataOf (streamedParts qs ps)), part-long k n i (getD tops 0 0) p (f .0), parts-long n i qs (drop 1 tops) ps (f .1))
+  parts-long n [] [] f = omega arith
+  parts-long n [] (p ∷ ps) f = absurd f
+  parts-long n (k ∷ qs) [] f = absurd f
+  parts-long n (k ∷ qs) (p ∷ ps) f =
+      omega (arith, length-append (partBytes (streamedPart k p)) (dataOf (streamedParts qs ps)), part-long k n p (f .0), parts-long n qs ps (f .1))
 
-  block-long : (limit : ℕ) (end : Option ℕ) (tops : List ℕ) (s : Block (List Entry)) (follow : ℕ) → BlockFits limit ks end tops s follow
-      → length (s .times) + entriesIn (bares (s .parts)) ≤ length (blockBytes (streamed ks s))
-  block-long limit end tops s follow f =
-      omega (arith, block-size (streamed ks s), parts-long (length (s .times)) (firstIndex end) ks tops (s .parts) (f .parts))
-
-  rest-count : (limit : ℕ) (end : Option ℕ) (tops : List ℕ) (ss : List (Block (List Entry))) → BlocksFit limit ks end tops ss
-      → length (restCalls ks ss) ≤ length (blocksBytes ks ss)
-  unfolding restCalls blocksBytes
-  rest-count limit end tops [] v = omega arith
-  rest-count limit end tops (s ∷ ss) v =
-      omega (
-        arith,
-        length-append (laterCalls ks (s .times) (bares (s .parts))) (restCalls ks ss),
-        later-count (s .times) (bares (s .parts)),
-        block-long limit end tops s (length ss) (v .0),
-        length-append (blockBytes (streamed ks s)) (blocksBytes ks ss),
-        rest-count limit (some (lastOr 0 (s .times))) (topsAfter tops (s .parts)) ss (v .1),
-      )
-
-  pub image-count : (limit : ℕ) (ss : List (Block (List Entry))) → BlocksFit limit ks none [] ss → length (imageCalls ks ss) ≤ length (blocksBytes ks ss)
-  unfolding imageCalls blocksBytes
-  image-count limit [] v = omega arith
-  image-count limit (s ∷ ss) v =
-      omega (
-        arith,
-        length-append (firstCalls ks (s .times) (bares (s .parts))) (restCalls ks ss),
-        first-count (s .times) (bares (s .parts)),
-        block-long limit none [] s (length ss) (v .0),
-        length-append (blockBytes (streamed ks s)) (blocksBytes ks ss),
-        rest-count limit (some (lastOr 0 (s .times))) (topsAfter [] (s .parts)) ss (v .1),
-      )
+  pub image-count : (limit : ℕ) (s : Block (List Entry)) → BlockFits limit ks s → length (imageCalls ks (some s)) ≤ length (blockBytes (streamed ks s))
+  image-count limit s f =
+      omega (arith, first-count (s .times) (bares (s .parts)), block-size (streamed ks s), parts-long (length (s .times)) ks (s .parts) (f .parts))

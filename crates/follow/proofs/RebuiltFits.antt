@@ -1,4 +1,4 @@
--- The calls rebuilt from a valid image are such as a caller can make: times of 64 bits, signal numbers of 32, values in slices of bytes.
+-- The calls rebuilt from a block that fits are such as a caller can make: times of 64 bits, signal numbers of 32, values in slices of bytes.
 -- Assumes nothing.
 use Prim.Native.Nat.{ℕ, zero, suc, _+_, _≤_, _<_, _^_}
 use mathlib.Core.Path.{_≡_, sym, ap, _∙_, subst}
@@ -9,7 +9,6 @@ use native.Mathlib.Nat.{add-zero, add-suc, suc-add, zero-add}
 use native.Mathlib.Omega.{arith}
 use borrow.Author.Tests.{leb-true}
 use lib.ListN.{length, getD}
-use Rattle.lists.specs.Last.{lastOr}
 use Rattle.lists.proofs.BytesLaws.{no-bytes}
 use Rattle.packed.specs.Packed.{packed, packedLength}
 use Rattle.packed.proofs.PackedLaws.{length-packed, packed-bytes}
@@ -20,10 +19,10 @@ use Rattle.signal.specs.Content.{Content, happened, symbols, bits, ContentFits}
 use Rattle.signal.proofs.SayLaws.{sayOf}
 use Rattle.stream.specs.Entries.{Entry}
 use Rattle.image.specs.Block.{Part, Block}
-use Rattle.codec.specs.Valid.{EachBelow, EntriesFit, OptionFits, PartsFit, topsAfter, firstIndex, BlocksFit}
+use Rattle.codec.specs.Valid.{EachBelow, EntriesFit, OptionFits, PartsFit, BlockFits}
 use Rattle.codec.proofs.Growth.{parts-each, parts-count}
 use Rattle.recording.specs.Calls.{Call, time, ValueFits, Fitting}
-use Rattle.model.proofs.Rebuild.{bare, bares, front, restOf, callsOf, roundCalls, blockCalls, firstCalls, laterCalls, restCalls, imageCalls, All, all-front, all-behind}
+use Rattle.model.proofs.Rebuild.{bare, bares, front, restOf, callsOf, roundCalls, blockCalls, firstCalls, imageCalls, All, all-front, all-behind}
 use Rattle.follow.proofs.ChangeLaws.{packed-few}
 
 fit-append : (a b : List Call) → Fitting a → Fitting b → Fitting (a ++ b)
@@ -88,12 +87,6 @@ module _ (ks : List SignalEncoding) where
   block-fit (t ∷ ts) i ps b v =
       fit-append (roundCalls ks i 0 ps) (time t ∷ blockCalls ks (suc i) ts (restOf i ps)) (round-fit i 0 ps v) (b .0, block-fit ts (suc i) (restOf i ps) (b .1) (rest-say i 0 ps v))
 
-  later-fit : (ts : List ℕ) (ps : List (Part (List Entry))) → EachBelow (2 ^ 64) ts → PartsSay 0 ps → Fitting (laterCalls ks ts ps)
-  unfolding Fitting laterCalls
-  later-fit [] ps b v = tt
-  later-fit (x ∷ []) ps b v = tt
-  later-fit (x ∷ t ∷ ts) ps b v = (b .1 .0, block-fit ts 1 ps (b .1 .1) v)
-
   first-fit : (ts : List ℕ) (ps : List (Part (List Entry))) → EachBelow (2 ^ 64) ts → PartsSay 0 ps → Fitting (firstCalls ks ts ps)
   unfolding Fitting firstCalls
   first-fit [] ps b v = tt
@@ -101,9 +94,9 @@ module _ (ks : List SignalEncoding) where
 
   -- ---- the parts of a valid block
 
-  option-values : (k : SignalEncoding) (n i before : ℕ) (p : Option (Part (List Entry))) → knownKind k ≡ true → OptionFits k n i before p → Values k (bare p .top) (bare p .stream)
-  option-values k n i before none h f = tt
-  option-values k n i before (some p) h f = entries-values k n i (p .top) (p .stream) h (f .most) (f .entries)
+  option-values : (k : SignalEncoding) (n : ℕ) (p : Option (Part (List Entry))) → knownKind k ≡ true → OptionFits k n p → Values k (bare p .top) (bare p .stream)
+  option-values k n none h f = tt
+  option-values k n (some p) h f = entries-values k n 0 (p .top) (p .stream) h (f .most) (f .entries)
 
   each-say : (ps : List (Option (Part (List Entry)))) (g : ℕ) → g + length ps ≤ 65536
       → ((j : ℕ) → j < length ps → Values (getD ks (g + j) Absent) (bare (getD ps j none) .top) (bare (getD ps j none) .stream)) → PartsSay g (bares ps)
@@ -118,27 +111,14 @@ module _ (ks : List SignalEncoding) where
       )
 
   module _ (few : length ks ≤ 65536) (known : (i : ℕ) → i < length ks → knownKind (getD ks i Absent) ≡ true) where
-    block-say : (n i : ℕ) (tops : List ℕ) (ps : List (Option (Part (List Entry)))) → PartsFit n i ks tops ps → PartsSay 0 (bares ps)
-    block-say n i tops ps f =
-        let c = parts-count n i ks tops ps f in
+    block-say : (n : ℕ) (ps : List (Option (Part (List Entry)))) → PartsFit n ks ps → PartsSay 0 (bares ps)
+    block-say n ps f =
+        let c = parts-count n ks ps f in
         each-say ps 0 (omega arith)
         (λ j l.
         let l' : j < length ks = omega arith in
         subst (λ (x : ℕ). Values (getD ks x Absent) (bare (getD ps j none) .top) (bare (getD ps j none) .stream)) (sym (zero-add j))
-        (option-values (getD ks j Absent) n i (getD tops j 0) (getD ps j none) (known j l') (parts-each n i ks tops ps f j)))
+        (option-values (getD ks j Absent) n (getD ps j none) (known j l') (parts-each n ks ps f j)))
 
-    rest-fit : (limit : ℕ) (end : Option ℕ) (tops : List ℕ) (ss : List (Block (List Entry))) → BlocksFit limit ks end tops ss → Fitting (restCalls ks ss)
-    unfolding Fitting restCalls
-    rest-fit limit end tops [] v = tt
-    rest-fit limit end tops (s ∷ ss) v =
-        fit-append (laterCalls ks (s .times) (bares (s .parts))) (restCalls ks ss)
-        (later-fit (s .times) (bares (s .parts)) (v .0 .small) (block-say (length (s .times)) (firstIndex end) tops (s .parts) (v .0 .parts)))
-        (rest-fit limit (some (lastOr 0 (s .times))) (topsAfter tops (s .parts)) ss (v .1))
-
-    pub image-fit : (limit : ℕ) (ss : List (Block (List Entry))) → BlocksFit limit ks none [] ss → Fitting (imageCalls ks ss)
-    unfolding Fitting imageCalls
-    image-fit limit [] v = tt
-    image-fit limit (s ∷ ss) v =
-        fit-append (firstCalls ks (s .times) (bares (s .parts))) (restCalls ks ss)
-        (first-fit (s .times) (bares (s .parts)) (v .0 .small) (block-say (length (s .times)) 0 [] (s .parts) (v .0 .parts)))
-        (rest-fit limit (some (lastOr 0 (s .times))) (topsAfter [] (s .parts)) ss (v .1))
+    pub image-fit : (limit : ℕ) (s : Block (List Entry)) → BlockFits limit ks s → Fitting (imageCalls ks (some s))
+    image-fit limit s f = first-fit (s .times) (bares (s .parts)) (f .small) (block-say (length (s .times)) (s .parts) (f .parts))

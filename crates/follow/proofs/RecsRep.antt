@@ -14,7 +14,7 @@ use Rattle.signal.specs.declared.kind.SignalEncoding.{SignalEncoding}
 use Rattle.signal.specs.declared.kind.SignalEncoding.the-variants.{Absent}
 use Rattle.signal.specs.Content.{Content}
 use Rattle.stream.specs.Entries.{entry}
-use Rattle.codec.specs.Full.{lastIndex}
+use Rattle.codec.specs.Ends.{lastIndex}
 use Rattle.recording.specs.declared.SignalRecord.{SignalRecord}
 use Rattle.recording.specs.Memory.{recordOf}
 use Rattle.recording.specs.Step.{rewound, fresh, kindIn, kindsOf}

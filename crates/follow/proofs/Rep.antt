@@ -18,7 +18,7 @@ use Rattle.stream.specs.Stream.{changeBytes}
 use Rattle.stream.specs.Entries.{entry}
 use Rattle.image.specs.Block.{block, blockBytes}
 use Rattle.image.specs.Head.{imageLimit}
-use Rattle.codec.specs.Full.{lastIndex}
+use Rattle.codec.specs.Ends.{lastIndex}
 use Rattle.recording.specs.Work.{itemsOf}
 use Rattle.recording.specs.Memory.{Memory, recordAt}
 use Rattle.recording.specs.Step.{noCut, cuts, cutBlock, cutItems, cutOf, cutIn, recordedIn, partsFrom}

@@ -15,7 +15,7 @@ use Rattle.signal.specs.declared.kind.SignalEncoding.{SignalEncoding}
 use Rattle.signal.specs.declared.kind.SignalEncoding.the-variants.{Absent}
 use Rattle.signal.specs.Kind.{knownKind}
 use Rattle.image.specs.Head.{headSize, headBytes, imageLimit}
-use Rattle.codec.specs.Full.{lastIndex}
+use Rattle.codec.specs.Ends.{lastIndex}
 use Rattle.codec.specs.Valid.{KnownKinds}
 use Rattle.recording.specs.declared.SignalRecord.{SignalRecord}
 use Rattle.recording.specs.Calls.{started}

@@ -101,7 +101,7 @@ pub record Finished (limit : ℕ) (ks : List SignalEncoding) (h : History) (byte
   pub valid : Valid (imageFor limit ks (model .blocks))
   pub bytes-are : imageBytes (imageFor limit ks (model .blocks)) ≡ bytes
 
-pub image-valid : (limit : ℕ) (ks : List SignalEncoding) (m : Memory) (p : Model) → KnownKinds ks → BlocksFit limit ks none [] (imageFor limit ks (p .blocks) .blocks) → Rep limit ks m p
+pub image-valid : (limit : ℕ) (ks : List SignalEncoding) (m : Memory) (p : Model) → KnownKinds ks → BlocksFit limit ks none (imageFor limit ks (p .blocks) .blocks) → Rep limit ks m p
     → Valid (imageFor limit ks (p .blocks))
 image-valid limit ks m p k f r = record {
   low = r .low;

@@ -20,7 +20,7 @@ use Rattle.stream.specs.Stream.{changeBytes}
 use Rattle.stream.specs.Entries.{Entry, entry, streamBytes}
 use Rattle.image.specs.Block.{Part, part}
 use Rattle.image.specs.Image.{streamedPart, streamedParts}
-use Rattle.codec.specs.Full.{lastIndex}
+use Rattle.codec.specs.Ends.{lastIndex}
 use Rattle.codec.proofs.Growth.{stream-more}
 use Rattle.recording.specs.declared.SignalRecord.{SignalRecord}
 use Rattle.recording.specs.Work.{Item, item, itemBytes, gather}

@@ -1,15 +1,17 @@
--- From the inner call's equation to that of the call on numbers, for the calls that read.
+-- From the inner call's equation to that of the call on numbers, for the calls on images; and that a join's answer is read back from its numbers.
 -- Assumes nothing.
 use Prim.Native.Nat.{ℕ}
-use mathlib.Core.Path.{_≡_, ap}
+use mathlib.Core.Path.{_≡_, refl, ap}
 use mathlib.Core.List.{List}
 use Rattle.loaded.specs.Reader.{LoadReply, LoadAfter, loadAfter, TableReply, TableAfter, tableAfter, CursorReply, CursorAfter, cursorAfter}
 use Rattle.entry.specs.Answer.{EntryReply, EntryAfter, entryAfter}
+use Rattle.joined.specs.Join.{JoinReply, refuse, joined, JoinAfter, joinAfter}
 use Rattle.interface.specs.declared.answers.LoadNumbers.{LoadNumbers}
 use Rattle.interface.specs.declared.answers.TableNumbers.{TableNumbers}
+use Rattle.interface.specs.declared.answers.JoinNumbers.{JoinNumbers}
 use Rattle.interface.specs.declared.answers.CursorNumbers.{CursorNumbers}
 use Rattle.interface.specs.declared.answers.EntryNumbers.{EntryNumbers}
-use Rattle.interface.specs.Answered.{loadNumbersOf, loadTold, loadToldOf, tableNumbersOf, tableTold, tableToldOf, cursorNumbersOf, cursorTold, cursorToldOf, entryNumbersOf, entryTold, entryToldOf}
+use Rattle.interface.specs.Answered.{loadNumbersOf, loadTold, loadToldOf, tableNumbersOf, tableTold, tableToldOf, joinNumbersOf, joinFrom, joinTold, joinToldOf, cursorNumbersOf, cursorTold, cursorToldOf, entryNumbersOf, entryTold, entryToldOf}
 
 pub load-told : (n : LoadNumbers) (r : LoadReply) (index bytes : List ℕ) (a : LoadAfter) → n ≡ loadNumbersOf r → loadAfter r index bytes ≡ a → loadTold n index bytes ≡ loadToldOf a
 load-told n r index bytes a h e = rw h (ap loadToldOf e)
@@ -22,3 +24,11 @@ cursor-told n r symbols a h e = rw h (ap cursorToldOf e)
 
 pub entry-told : (n : EntryNumbers) (r : EntryReply) (symbols : List ℕ) (a : EntryAfter) → n ≡ entryNumbersOf r → entryAfter r symbols ≡ a → entryTold n symbols ≡ entryToldOf a
 entry-told n r symbols a h e = rw h (ap entryToldOf e)
+
+pub join-told : (n : JoinNumbers) (r : JoinReply) (out : List ℕ) (a : JoinAfter) → n ≡ joinNumbersOf r → joinAfter r out ≡ a → joinTold n out ≡ joinToldOf a
+join-told n r out a h e = rw h (ap joinToldOf e)
+
+-- what a caller reads is what was answered
+pub join-back : (r : JoinReply) → joinFrom (joinNumbersOf r) ≡ r
+join-back (refuse n) = refl
+join-back (joined n) = refl

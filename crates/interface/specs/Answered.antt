@@ -1,17 +1,22 @@
--- How the answers of the calls that read an image cross as numbers. In each, `answer` 0 is a refusal and `value` then its number; the other
+-- How the answers of the calls on images cross as numbers. In each, `answer` 0 is a refusal and `value` then its number; the other
 -- answers have numbers that the recorder's calls do not use.
 -- Assumes nothing.
 use Prim.Native.Nat.{ℕ}
 use mathlib.Core.Path.{_≡_}
 use mathlib.Core.List.{List}
+use lib.Dec.{eqb}
 use lib.ListN.{take, drop}
+use Rattle.lists.specs.Choice.{pick}
 use Rattle.loaded.specs.Reader.{LoadReply, loaded, LoadAfter, TableReply, counted, TableAfter, Shown, event, vector, real, CursorReply, nothing, found, CursorAfter}
 use Rattle.loaded.specs.Reader as read
 use Rattle.entry.specs.Answer.{EntryReply, noEntry, shown, EntryAfter}
 use Rattle.entry.specs.Answer as entry
+use Rattle.joined.specs.Join.{JoinReply, joined, JoinAfter}
+use Rattle.joined.specs.Join as join
 use Rattle.walk.specs.Walk.{imageIn, streamPlace}
 use Rattle.interface.specs.declared.answers.LoadNumbers.{LoadNumbers}
 use Rattle.interface.specs.declared.answers.TableNumbers.{TableNumbers}
+use Rattle.interface.specs.declared.answers.JoinNumbers.{JoinNumbers}
 use Rattle.interface.specs.declared.answers.PartNumbers.{PartNumbers}
 use Rattle.interface.specs.declared.answers.ContentNumbers.{ContentNumbers}
 use Rattle.interface.specs.declared.answers.CursorNumbers.{CursorNumbers}
@@ -49,6 +54,26 @@ tableTold n t = record { numbers = n; times = t }
 
 abbrev pub tableToldOf : TableAfter → TableTold
 tableToldOf a = tableTold (tableNumbersOf (a .reply)) (a .times)
+
+-- ---- a join: its total
+
+abbrev pub joinNumbersOf : JoinReply → JoinNumbers
+joinNumbersOf (join.JoinReply.refuse n) = record { answer = 0; value = n }
+joinNumbersOf (joined n) = record { answer = 14; value = n }
+
+-- as a caller reads them
+abbrev pub joinFrom : JoinNumbers → JoinReply
+joinFrom n = pick (eqb (n .answer) 14) (joined (n .value)) (join.JoinReply.refuse (n .value))
+
+pub record JoinTold : Type 0 where
+  pub numbers : JoinNumbers
+  pub out : List ℕ
+
+abbrev pub joinTold : JoinNumbers → List ℕ → JoinTold
+joinTold n o = record { numbers = n; out = o }
+
+abbrev pub joinToldOf : JoinAfter → JoinTold
+joinToldOf a = joinTold (joinNumbersOf (a .reply)) (a .out)
 
 -- ---- the stream of a signal: a part of the image
 

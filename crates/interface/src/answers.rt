@@ -1,14 +1,16 @@
-// The answers of the calls that read an image, as numbers.
+// The answers of the calls on images, as numbers.
 use entry::answer::EntryAnswer;
+use joined::JoinAnswer;
 use loaded::CursorAnswer;
 use loaded::LoadAnswer;
 use loaded::TableAnswer;
 use value::real::Entry;
 use value::real::SignalValue;
 ghost use mathlib.Core.Path.{_≡_};
+ghost use Rattle.joined.specs.Join.{joinReply};
 ghost use Rattle.loaded.specs.Reader.{loadReply, tableReply, cursorReply, entryReply};
 ghost use Rattle.entry.specs.Answer.{answerReply};
-ghost use Rattle.interface.specs.Answered.{loadNumbersOf, tableNumbersOf, content, contentOf, cursorNumbersOf, entryNumbersOf};
+ghost use Rattle.interface.specs.Answered.{loadNumbersOf, tableNumbersOf, joinNumbersOf, content, contentOf, cursorNumbersOf, entryNumbersOf};
 
 // `value` is the number of kept entries, `class` the signal's.
 #[repr(C)]
@@ -21,6 +23,13 @@ pub struct LoadNumbers {
 // `value` is the combined table's length.
 #[repr(C)]
 pub struct TableNumbers {
+    pub answer: u32,
+    pub value: u32,
+}
+
+// `value` is the joined image's total.
+#[repr(C)]
+pub struct JoinNumbers {
     pub answer: u32,
     pub value: u32,
 }
@@ -85,6 +94,22 @@ pub fn table_numbers(answer: TableAnswer) -> TableNumbers
             value: length,
         },
         TableAnswer::Refused(number) => TableNumbers {
+            answer: 0,
+            value: number,
+        },
+    }
+}
+
+// The answer of a join: 14, or 0 with the refusal's number.
+pub fn join_numbers(answer: JoinAnswer) -> JoinNumbers
+    ensures { λ r. ⌜ r ≡ joinNumbersOf (joinReply answer) ⌝ }
+{
+    match answer {
+        JoinAnswer::Joined(total) => JoinNumbers {
+            answer: 14,
+            value: total,
+        },
+        JoinAnswer::Refused(number) => JoinNumbers {
             answer: 0,
             value: number,
         },

@@ -1,16 +1,19 @@
-// The calls that read any bytes: each opens first.
+// The calls on any bytes: each opens first.
 use crate::answers::CursorNumbers;
 use crate::answers::EntryNumbers;
+use crate::answers::JoinNumbers;
 use crate::answers::LoadNumbers;
 use crate::answers::PartNumbers;
 use crate::answers::TableNumbers;
 use crate::answers::cursor_numbers;
 use crate::answers::entry_numbers;
+use crate::answers::join_numbers;
 use crate::answers::load_numbers;
 use crate::answers::table_numbers;
 use crate::opened::wejumo_opened_stream;
 use entry::answer::entry_value;
 use entry::length::entry_len;
+use join::join;
 use opener::open;
 use reader::cursor;
 use reader::load;
@@ -27,8 +30,9 @@ ghost use Rattle.storage.specs.Storage.{kindFrom};
 ghost use Rattle.loaded.specs.Opener.{openOf, streamOf};
 ghost use Rattle.loaded.specs.Reader.{loadOf, tableOf, cursorOf};
 ghost use Rattle.entry.specs.Length.{entryLength};
+ghost use Rattle.joined.specs.Join.{joinOf};
 ghost use Rattle.entry.specs.Answer.{entryValueOf};
-ghost use Rattle.interface.specs.Answered.{loadTold, loadToldOf, tableTold, tableToldOf, partOf, PlaceOf, cursorTold, cursorToldOf, entryTold, entryToldOf};
+ghost use Rattle.interface.specs.Answered.{loadTold, loadToldOf, tableTold, tableToldOf, joinTold, joinToldOf, partOf, PlaceOf, cursorTold, cursorToldOf, entryTold, entryToldOf};
 
 // 1 where the bytes are an image, else 0.
 #[no_mangle]
@@ -81,6 +85,14 @@ pub extern "C" fn wejumo_cursor(
     ensures { λ r. ⌜ cursorTold r (now (out .exit)) ≡ cursorToldOf (cursorOf (now (image .entry)) signal time (now (out .entry))) ⌝ }
 {
     cursor_numbers(cursor(image, SignalRef(signal), time, out))
+}
+
+// Writes one image made of two to the start of the output. 11, 14, 15, 16, 8.
+#[no_mangle]
+pub extern "C" fn wejumo_join(first: &[u8], second: &[u8], out: &mut [u8]) -> JoinNumbers
+    ensures { λ r. ⌜ joinTold r (now (out .exit)) ≡ joinToldOf (joinOf (now (first .entry)) (now (second .entry)) (now (out .entry))) ⌝ }
+{
+    join_numbers(join(first, second, out))
 }
 
 // A number above 1 gives Nine.

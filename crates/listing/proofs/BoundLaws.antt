@@ -75,12 +75,12 @@ stream-part : (k : SignalEncoding) (p : Option (Part (List Entry))) → length (
 stream-part k none = omega arith
 stream-part k (some p) = omega arith
 
-streams-data : (limit : ℕ) (ks : List SignalEncoding) (g : ℕ) (end : Option ℕ) (tops : List ℕ) (bs : List (Block (List Entry))) → BlocksFit limit ks end tops bs
+streams-data : (limit : ℕ) (ks : List SignalEncoding) (g : ℕ) (end : Option ℕ) (bs : List (Block (List Entry))) → BlocksFit limit ks end bs
     → streamsLength (getD ks g Absent) g bs ≤ dataFrom 0 ks bs
 unfolding streamsLength dataFrom
-streams-data limit ks g end tops [] f = omega arith
-streams-data limit ks g end tops (y ∷ bs) f =
-    omega (arith, stream-data ks (y .parts) g (parts-count _ _ ks tops (y .parts) (f .0 .parts)), streams-data limit ks g _ _ bs (f .1))
+streams-data limit ks g end [] f = omega arith
+streams-data limit ks g end (y ∷ bs) f =
+    omega (arith, stream-data ks (y .parts) g (parts-count _ ks (y .parts) (f .1 .0 .parts)), streams-data limit ks g _ bs (f .1 .1))
 
 -- the first signal's streams, and the data of those after it
 data-part : (k : SignalEncoding) (ks : List SignalEncoding) (g : ℕ) (ps : List (Option (Part (List Entry))))
@@ -104,7 +104,7 @@ count-most k n m h = let q : n * 1 ≤ n * leastLength k = mul-le-mul (omega ari
 
 module _ (x : Image) (v : Valid x) (z : Small x) (g : ℕ) where
   streams-few : streamsLength (kindAt x g) g (x .blocks) ≤ 16384
-  streams-few = omega (arith, image-size x, blocks-least (x .kinds) (x .blocks), streams-data (x .limit) (x .kinds) g none [] (x .blocks) (v .blocks))
+  streams-few = omega (arith, image-size x, blocks-least (x .kinds) (x .blocks), streams-data (x .limit) (x .kinds) g none (x .blocks) (v .blocks))
 
   pub entries-few : length (loads g (x .blocks) .entries) ≤ 16384
   entries-few = count-most (kindAt x g) (length (loads g (x .blocks) .entries)) 16384 (omega (arith, kept-least x v g, streams-few))

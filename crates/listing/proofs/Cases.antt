@@ -20,7 +20,7 @@ use Rattle.image.specs.Block.{part, block, les, dataOf, offsetsFrom, blockBytes
 use Rattle.image.specs.Head.{headBytes}
 use Rattle.image.specs.Image.{Image, image, streamedParts, blocksBytes, imageBytes}
 use Rattle.form.specs.Decide.{false-true}
-use Rattle.codec.specs.Valid.{Valid, risingFrom?, rising?, eachBelow?, knownKinds?, contentFits?, entryFits?, entriesFit?, partFits?, partsFit?, begins?, filled?, blockFits?, blocksFit?, valid?}
+use Rattle.codec.specs.Valid.{Valid, risingFrom?, rising?, eachBelow?, knownKinds?, contentFits?, entryFits?, entriesFit?, partFits?, partsFit?, starts?, blockFits?, blocksFit?, valid?}
 use Rattle.codec.proofs.Trip.{parse-of}
 use Rattle.loaded.specs.Loading.{tableFrom, moved, repeatsLast, pushed, loadFrom}
 use Rattle.loaded.proofs.BenchLoads.{benchBytes, bench-parse}
@@ -54,7 +54,7 @@ decided (yes a) e = a
 decided (no n) e = absurd (false-true e)
 
 kinds-valid : Valid allKinds
-unfolding valid? blocksFit? blockFits? filled? begins? rising? risingFrom? eachBelow? partsFit? partFits? entriesFit? entryFits? contentFits? knownKinds? lastOr classOfAll allSymbols imageBytes blocksBytes streamedParts streamBytes headBytes blockBytes les dataOf offsetsFrom le lebOf groups changeBytes packed digits numberOf
+unfolding valid? blocksFit? blockFits? starts? rising? risingFrom? eachBelow? partsFit? partFits? entriesFit? entryFits? contentFits? knownKinds? lastOr classOfAll allSymbols imageBytes blocksBytes streamedParts streamBytes headBytes blockBytes les dataOf offsetsFrom le lebOf groups changeBytes packed digits numberOf
 kinds-valid = decided (valid? allKinds) refl
 
 kinds-bytes : length (imageBytes allKinds) ≡ 172

@@ -1,3 +1,4 @@
 pub mod EntryLaws
 pub mod BenchLoads
 pub mod TableLaws
+pub mod JoinedLoads

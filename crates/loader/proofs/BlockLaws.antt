@@ -18,9 +18,8 @@ use Rattle.stream.specs.Entries.{Entry, streamBytes}
 use Rattle.image.specs.Block.{Part, block, dataOf, partBytes}
 use Rattle.image.specs.Head.{imageLimit}
 use Rattle.image.specs.Image.{Image, streamedParts, streamedPart}
-use Rattle.codec.specs.Valid.{firstIndex}
-use Rattle.codec.proofs.Growth.{parts-each, parts-count, Fitting}
-use Rattle.codec.proofs.ImageFits.{filled-small}
+use Rattle.codec.specs.Valid.{BlockFits}
+use Rattle.codec.proofs.Growth.{parts-each, parts-count}
 use Rattle.loaded.specs.Opener.{kindAt, blockAt, partAt, streamIn}
 use Rattle.loaded.specs.Loading.{entriesIn, topIn}
 use Rattle.walk.specs.Walk.{Opened, imageIn, blockPlace, BlockHere, PartHere}
@@ -29,17 +28,9 @@ use Rattle.walk.proofs.BlockLaws.{fits-in, here, next-size}
 use Rattle.walk.proofs.PartLaws.{stream-entries, entries-fit}
 use Rattle.entry.specs.Kept.{KeptReads}
 use Rattle.loader.specs.Output.{allTaken, Room, outputAs}
-use Rattle.loader.specs.Blocks.{baseOf, changesIn, topOf}
+use Rattle.loader.specs.Blocks.{changesIn, topOf}
 use Rattle.loader.specs.declared.changes.Loading.{Loading}
 use Rattle.loader.proofs.StreamLaws.{Ahead, Turn, turn, not-bad, Going, gone}
-
-pub base-later : (n t : ℕ) → (n ≡ 0 → ⊥) → t - 1 ≡ baseOf n t
-base-later zero t h = absurd (h refl)
-base-later (suc n) t h = refl
-
-pub base-small : (n t : ℕ) → baseOf n t ≤ t
-base-small zero t = omega arith
-base-small (suc n) t = omega arith
 
 -- ---- a block of a valid image
 
@@ -84,13 +75,13 @@ begins b number at g from to top y o h p =
     let k = kindAt x g in
     let m = means b y o in
     let q = partAt n g in
-    let f : Fitting (x .limit) ks n = fits-in number b y o (h .exists) in
-    let pf = parts-each (length (n .times)) (firstIndex (f .end)) ks (f .tops) (n .parts) (f .fits .parts) g in
+    let f : BlockFits (x .limit) ks n = fits-in number b y o (h .exists) in
+    let pf = parts-each (length (n .times)) ks (n .parts) (f .parts) g in
     let s : take (to - from) (drop from b) ≡ streamBytes k 0 (entriesIn q) = p .stream ∙ stream-entries k q in
     let size : length (streamIn k q) ≡ to - from = part-size b number g from to top p in
     let ls : length (streamBytes k 0 (entriesIn q)) ≡ to - from = sym (ap length (stream-entries k q)) ∙ size in
-    let few : length (n .times) ≤ 65535 = omega (arith, filled-small (x .limit) (length (n .times)) (f .follow) (f .fits .filled), m .valid .high) in
-    let sd = stream-data ks (n .parts) g (parts-count _ _ ks (f .tops) (n .parts) (f .fits .parts)) in
+    let few : length (n .times) ≤ 65535 = omega (arith, f .few, m .valid .high) in
+    let sd = stream-data ks (n .parts) g (parts-count _ ks (n .parts) (f .parts)) in
     let ns = next-size x number (h .exists) in
     let pl = h .place in
     let i = here number at b y o h .most in
@@ -98,13 +89,13 @@ begins b number at g from to top y o h p =
     record {
       ahead = record {
         prev = 0;
-        least = firstIndex (f .end);
+        least = 0;
         entries = entriesIn q;
         tail = drop (to - from) (drop from b);
         bytes = sym (take-append-drop (to - from) (drop from b)) ∙ ap (λ (l : List ℕ). l ++ drop (to - from) (drop from b)) s;
         size = omega (arith, p .ordered);
         inside = p .inside;
-        fits = entries-fit k _ _ _ q pf;
+        fits = entries-fit k _ q pf;
         order = omega arith;
       };
       prev = refl;
@@ -117,14 +108,14 @@ begins b number at g from to top y o h p =
 
 -- ---- the loop over its changes
 
-abbrev pub BlockGoing : (k : SignalEncoding) (b : List ℕ) (number g c : ℕ) (w : Bool) (times from to : ℕ) (r : Loading) (index bytes : List ℕ) (p i : ℕ) (s : Loading) (index' bytes' : List ℕ) → Type 0
-BlockGoing k b number g c w times from to r index bytes p i s index' bytes' =
-    Going k b (length (blockAt (imageIn b) number .times)) (topOf (imageIn b) number g) c w (baseOf number times) from to
-    (outputAs k b r index bytes) (changesIn (imageIn b) number g times) p i s index' bytes'
+abbrev pub BlockGoing : (k : SignalEncoding) (b : List ℕ) (number g c : ℕ) (w : Bool) (base from to : ℕ) (r : Loading) (index bytes : List ℕ) (p i : ℕ) (s : Loading) (index' bytes' : List ℕ) → Type 0
+BlockGoing k b number g c w base from to r index bytes p i s index' bytes' =
+    Going k b (length (blockAt (imageIn b) number .times)) (topOf (imageIn b) number g) c w base from to
+    (outputAs k b r index bytes) (changesIn (imageIn b) number g base) p i s index' bytes'
 
-module _ (k : SignalEncoding) (b : List ℕ) (number at g c : ℕ) (w : Bool) (times from to : ℕ) (s : Loading) (index bytes : List ℕ)
+module _ (k : SignalEncoding) (b : List ℕ) (number at g c : ℕ) (w : Bool) (base from to : ℕ) (s : Loading) (index bytes : List ℕ)
     (e : k ≡ kindAt (imageIn b) g) (m : Begins b number at g from to) where
-  pub going-first : (i : ℕ) → KeptReads (kindAt (imageIn b) g) b (s .last) → i ≡ baseOf number times → BlockGoing k b number g c w times from to s index bytes from i s index bytes
+  pub going-first : (i : ℕ) → KeptReads (kindAt (imageIn b) g) b (s .last) → i ≡ base → BlockGoing k b number g c w base from to s index bytes from i s index bytes
   going-first i l f =
       rw e (record {
         ahead = m .ahead;
@@ -137,23 +128,23 @@ module _ (k : SignalEncoding) (b : List ℕ) (number at g c : ℕ) (w : Bool) (t
         bytes-size = refl;
       })
 
-  pub room-there : (i n : ℕ) → Room w (allTaken (kindAt (imageIn b) g) c w (outputAs (kindAt (imageIn b) g) b s index bytes) (changesIn (imageIn b) number g times)) i n
-      → Room w (allTaken k c w (outputAs k b s index bytes) (changesIn (imageIn b) number g times)) i n
+  pub room-there : (i n : ℕ) → Room w (allTaken (kindAt (imageIn b) g) c w (outputAs (kindAt (imageIn b) g) b s index bytes) (changesIn (imageIn b) number g base)) i n
+      → Room w (allTaken k c w (outputAs k b s index bytes) (changesIn (imageIn b) number g base)) i n
   room-there i n h = rw e h
 
-  pub block-done : (p i : ℕ) (t : Loading) (index' bytes' : List ℕ) → BlockGoing k b number g c w times from to s index bytes p i t index' bytes' → to ≤ p → s .count ≤ at
-      → KeptReads (kindAt (imageIn b) g) b (t .last) × (t .count ≤ blockPlace (imageIn b) (suc number))
-      × (outputAs (kindAt (imageIn b) g) b t index' bytes' ≡ allTaken (kindAt (imageIn b) g) c w (outputAs (kindAt (imageIn b) g) b s index bytes) (changesIn (imageIn b) number g times))
+  pub block-done : (p i : ℕ) (t : Loading) (index' bytes' : List ℕ) → BlockGoing k b number g c w base from to s index bytes p i t index' bytes' → to ≤ p → s .count ≤ at
+      → KeptReads (kindAt (imageIn b) g) b (t .last) × ((t .count ≤ blockPlace (imageIn b) (suc number))
+      × (outputAs (kindAt (imageIn b) g) b t index' bytes' ≡ allTaken (kindAt (imageIn b) g) c w (outputAs (kindAt (imageIn b) g) b s index bytes) (changesIn (imageIn b) number g base)))
   block-done p i t index' bytes' d h few =
-      let x : outputAs k b t index' bytes' ≡ allTaken k c w (outputAs k b s index bytes) (changesIn (imageIn b) number g times) = gone k b _ _ c w _ from to _ _ p i t index' bytes' d h in
+      let x : outputAs k b t index' bytes' ≡ allTaken k c w (outputAs k b s index bytes) (changesIn (imageIn b) number g base) = gone k b _ _ c w _ from to _ _ p i t index' bytes' d h in
       let y = rw e at x in
       let z : p ≤ to = omega (arith, d .ahead .size) in
-      (rw e at (d .reads), omega (arith, d .few, d .start, m .place, m .ordered), y)
+      (rw e at (d .reads), (omega (arith, d .few, d .start, m .place, m .ordered), y))
 
   -- one change of it
-  pub block-turn : (p i : ℕ) (t : Loading) (index' bytes' : List ℕ) (d : ℕ) (v : ChangeValue) (next : ℕ) → (y : Bytes b) → (h : p < to) → (x : BlockGoing k b number g c w times from to s index bytes p i t index' bytes')
+  pub block-turn : (p i : ℕ) (t : Loading) (index' bytes' : List ℕ) (d : ℕ) (v : ChangeValue) (next : ℕ) → (y : Bytes b) → (h : p < to) → (x : BlockGoing k b number g c w base from to s index bytes p i t index' bytes')
       → changeAt k b p ≡ read.Change d v next → Turn k b (length (blockAt (imageIn b) number .times)) (topOf (imageIn b) number g) p to (x .ahead) d v next
   block-turn p i t index' bytes' d v next y h x f = turn k b _ _ p to y (m .few) h (x .ahead) d v next f
 
-  pub block-not-bad : (p i : ℕ) (t : Loading) (index' bytes' : List ℕ) → Bytes b → p < to → BlockGoing k b number g c w times from to s index bytes p i t index' bytes' → changeAt k b p ≡ read.Bad → ⊥
+  pub block-not-bad : (p i : ℕ) (t : Loading) (index' bytes' : List ℕ) → Bytes b → p < to → BlockGoing k b number g c w base from to s index bytes p i t index' bytes' → changeAt k b p ≡ read.Bad → ⊥
   block-not-bad p i t index' bytes' y h x f = not-bad k b _ _ p to y (m .few) h (x .ahead) f

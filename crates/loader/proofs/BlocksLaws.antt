@@ -1,76 +1,36 @@
 -- Loading block after block, on plain lists and in an accepted image.
 -- Assumes nothing.
-use Prim.Native.Nat.{ℕ, zero, suc, _+_, _-_, _≤_, _<_}
+use Prim.Native.Nat.{ℕ, suc, _+_, _-_, _≤_, _<_}
 use mathlib.Core.Path.{_≡_, refl, sym, ap, _∙_, subst}
 use mathlib.Core.Bool.{Bool, true, false}
-use mathlib.Core.List.{List, [], _∷_, _++_, map}
+use mathlib.Core.List.{List, [], _∷_, map}
 use mathlib.Core.Option.{Option, some, none}
 use native.Mathlib.Omega.{arith}
-use borrow.Author.Tests.{eq-eqb}
-use lib.ListN.{length, drop, length-append, drop-of-length-le}
+use lib.ListN.{length, drop, drop-of-length-le}
 use lib.Seq.{length-sets}
 use Rattle.lists.specs.Bytes.{Bytes}
 use Rattle.lists.specs.Last.{lastOr}
-use Rattle.lists.proofs.LastLaws.{last-append}
 use Rattle.signal.specs.declared.kind.SignalEncoding.{SignalEncoding}
 use Rattle.stream.specs.Entries.{Entry}
 use Rattle.image.specs.Block.{Block}
 use Rattle.image.specs.Head.{imageLimit}
 use Rattle.image.specs.Image.{Image}
-use Rattle.codec.specs.Valid.{topsAfter, BlocksFit}
-use Rattle.codec.specs.Valid as valid
+use Rattle.codec.specs.Ends.{endOf}
 use Rattle.loaded.specs.Opener.{kindAt, blockAt, partAt}
-use Rattle.loaded.specs.Loading.{overlap, joinTimes, moved, pushed, Load, load, entriesIn, loadBlock, loadFrom, loads}
+use Rattle.loaded.specs.Loading.{overlap, moved, pushed, Load, load, entriesIn, loadBlock, loadFrom, loads}
 use Rattle.loaded.specs.EntryBytes.{entriesBytes}
+use Rattle.loaded.proofs.TableLaws.{overlap-both, joined-length}
 use Rattle.loaded.specs.Reader.{indexIn}
-use Rattle.walk.specs.Walk.{Opened, imageIn, blockPlace}
+use Rattle.walk.specs.Walk.{Opened, imageIn, blockPlace, lastTime, sharedTimes}
 use Rattle.walk.proofs.HeadLaws.{means, head-in}
-use Rattle.walk.proofs.BlockLaws.{here, next-size, end-place}
+use Rattle.walk.proofs.BlockLaws.{here, next-size, end-place, any-time}
+use Rattle.walk.proofs.TableLaws.{overlap-shared, last-joined}
 use Rattle.entry.specs.Kept.{KeptReads}
 use Rattle.loader.specs.Output.{Output, output, allTaken, Room, nothingKept, outputAs, holding}
-use Rattle.loader.specs.Blocks.{baseOf, changesIn, topOf}
+use Rattle.loader.specs.Blocks.{changesIn, topOf}
 use Rattle.loader.specs.declared.changes.Loading.{Loading}
 use Rattle.loader.proofs.OutputLaws.{taken-pushed, Grows, grows-same, grows-both, all-grows, room-first}
-use Rattle.loader.proofs.BlockLaws.{base-small, blocks-left}
-
--- ---- the combined table
-
-abbrev pub lastTime : List ℕ → Option ℕ
-lastTime [] = none
-lastTime (x ∷ l) = some (lastOr x l)
-
--- a block's times after a table: how many of them are there already, and the table then
-pub record Joined (number : ℕ) (l ts : List ℕ) : Type 0 where
-  pub base : length l - overlap l ts ≡ baseOf number (length l)
-  pub size : length (joinTimes l ts) ≡ baseOf number (length l) + length ts
-  pub last : lastTime (joinTimes l ts) ≡ some (lastOr 0 ts)
-  pub more : length l < length (joinTimes l ts)
-
-joined-later : (number x t : ℕ) (l ts : List ℕ) → t ≡ lastOr x l → 1 ≤ length ts → Joined (suc number) (x ∷ l) (t ∷ ts)
-unfolding lastOr
-joined-later number x t l [] e h = absurd (omega arith)
-joined-later number x t l (v ∷ ts) e h =
-    let o : overlap (x ∷ l) (t ∷ v ∷ ts) ≡ 1 = rw (eq-eqb t (lastOr x l) e) refl in
-    let j : joinTimes (x ∷ l) (t ∷ v ∷ ts) ≡ (x ∷ l) ++ v ∷ ts = ap (λ (n : ℕ). (x ∷ l) ++ drop n (t ∷ v ∷ ts)) o in
-    let n = length-append (x ∷ l) (v ∷ ts) in
-    record {
-      base = ap (λ (n : ℕ). length (x ∷ l) - n) o;
-      size = ap length j ∙ omega arith;
-      last = ap lastTime j ∙ ap some (last-append x l (v ∷ ts));
-      more = omega (arith, ap length j);
-    }
-
-joined-first : (t : ℕ) (ts : List ℕ) → Joined 0 [] (t ∷ ts)
-unfolding lastOr
-joined-first t ts = record { base = refl; size = omega arith; last = refl; more = omega arith }
-
-joined-by : (number : ℕ) (l ts : List ℕ) → valid.Begins (lastTime l) ts → (number ≡ 0 → length l ≡ 0) → number ≤ length l → Joined number l ts
-joined-by zero [] [] b z m = absurd (omega arith)
-joined-by zero [] (t ∷ ts) b z m = joined-first t ts
-joined-by zero (x ∷ l) ts b z m = let q = z refl in absurd (omega arith)
-joined-by (suc number) [] ts b z m = absurd (omega arith)
-joined-by (suc number) (x ∷ l) [] b z m = let q = b .0 in absurd (omega arith)
-joined-by (suc number) (x ∷ l) (t ∷ ts) b z m = let q = b .0 in joined-later number x t l ts (b .1) (omega arith)
+use Rattle.loader.proofs.BlockLaws.{blocks-left}
 
 -- ---- entries and class only grow
 
@@ -98,24 +58,21 @@ held-sizes k c false i b es = (refl, refl)
 held-sizes k c true i b es = (length-sets i 0 (map indexIn es), length-sets b 0 (entriesBytes k c es))
 
 -- before block number `number`
-pub record Passing (b : List ℕ) (g c : ℕ) (w : Bool) (index bytes : List ℕ) (number at times : ℕ) (s : Loading) (index' bytes' : List ℕ) : Type 0 where
+pub record Passing (b : List ℕ) (g c : ℕ) (w : Bool) (index bytes : List ℕ) (number at times : ℕ) (later : Bool) (end : ℕ) (s : Loading) (index' bytes' : List ℕ) : Type 0 where
   pub l : Load
-  pub tops : List ℕ
   pub rest : loadFrom g l (drop number (imageIn b .blocks)) ≡ loads g (imageIn b .blocks)
-  pub fit : BlocksFit (imageIn b .limit) (imageIn b .kinds) (lastTime (l .times)) tops (drop number (imageIn b .blocks))
   pub inside : number ≤ length (imageIn b .blocks)
   pub size : times ≡ length (l .times)
-  pub none-yet : number ≡ 0 → length (l .times) ≡ 0
-  pub many : number ≤ times
+  pub ends : lastTime (l .times) ≡ endOf later end
   pub early : times ≤ at
   pub few : s .count ≤ at
   pub place : at ≡ blockPlace (imageIn b) number
   pub reads : KeptReads (kindAt (imageIn b) g) b (s .last)
   pub same : outputAs (kindAt (imageIn b) g) b s index' bytes' ≡ holding (kindAt (imageIn b) g) c w index bytes (l .entries)
 
-pub passing-sizes : (b : List ℕ) (g c : ℕ) (w : Bool) (index bytes : List ℕ) (number at times : ℕ) (s : Loading) (index' bytes' : List ℕ)
-    → Passing b g c w index bytes number at times s index' bytes' → (length index' ≡ length index) × (length bytes' ≡ length bytes)
-passing-sizes b g c w index bytes number at times s index' bytes' p =
+pub passing-sizes : (b : List ℕ) (g c : ℕ) (w : Bool) (index bytes : List ℕ) (number at times : ℕ) (later : Bool) (end : ℕ) (s : Loading) (index' bytes' : List ℕ)
+    → Passing b g c w index bytes number at times later end s index' bytes' → (length index' ≡ length index) × (length bytes' ≡ length bytes)
+passing-sizes b g c w index bytes number at times later end s index' bytes' p =
     let z = held-sizes (kindAt (imageIn b) g) c w index bytes (p .l .entries) in
     (ap (λ (q : Output). length (q .index)) (p .same) ∙ z .0, ap (λ (q : Output). length (q .bytes)) (p .same) ∙ z .1)
 
@@ -125,16 +82,13 @@ held-nothing k c false i b = refl
 held-nothing k c true i b = refl
 
 pub passing-first : (b : List ℕ) (g c : ℕ) (w : Bool) (index bytes : List ℕ) (at : ℕ) (s : Loading) → Bytes b → Opened b → at ≡ blockPlace (imageIn b) 0
-    → s ≡ nothingKept → Passing b g c w index bytes 0 at 0 s index bytes
+    → s ≡ nothingKept → Passing b g c w index bytes 0 at 0 false 0 s index bytes
 passing-first b g c w index bytes at s y o e z = rw z (record {
   l = load [] [] 0;
-  tops = [];
   rest = refl;
-  fit = means b y o .valid .blocks;
   inside = omega arith;
   size = refl;
-  none-yet = λ k. refl;
-  many = omega arith;
+  ends = refl;
   early = omega arith;
   few = omega arith;
   place = e;
@@ -142,40 +96,41 @@ passing-first b g c w index bytes at s y o e z = rw z (record {
   same = held-nothing (kindAt (imageIn b) g) c w index bytes;
 })
 
-module _ (b : List ℕ) (g c : ℕ) (w : Bool) (index bytes : List ℕ) (number at times : ℕ) (s : Loading) (index' bytes' : List ℕ) (y : Bytes b) (o : Opened b)
-    (p : Passing b g c w index bytes number at times s index' bytes') (h : number < length (imageIn b .blocks)) where
+module _ (b : List ℕ) (g c : ℕ) (w : Bool) (index bytes : List ℕ) (number at times : ℕ) (later : Bool) (end : ℕ) (s : Loading) (index' bytes' : List ℕ) (y : Bytes b) (o : Opened b)
+    (p : Passing b g c w index bytes number at times later end s index' bytes') (h : number < length (imageIn b .blocks)) where
   abbrev x : Image
   x = imageIn b
 
   abbrev next : Block (List Entry)
   next = blockAt x number
 
-  fit-next : BlocksFit (x .limit) (x .kinds) (lastTime (p .l .times)) (p .tops) (next ∷ drop (suc number) (x .blocks))
-  fit-next = subst (λ (bs : List (Block (List Entry))). BlocksFit (x .limit) (x .kinds) (lastTime (p .l .times)) (p .tops) bs) (blocks-left x number h) (p .fit)
+  -- the times that the table has already
+  overlapping : overlap (p .l .times) (next .times) ≡ sharedTimes (endOf later end) (next .times)
+  overlapping = overlap-shared (p .l .times) (next .times) ∙ ap (λ (e : Option ℕ). sharedTimes e (next .times)) (p .ends)
 
-  joined : Joined number (p .l .times) (next .times)
-  joined = joined-by number (p .l .times) (next .times) (fit-next .0 .begins) (p .none-yet) (omega (arith, p .size, p .many))
+  pub shared-small : (n : ℕ) → n ≡ sharedTimes (endOf later end) (next .times) → n ≤ times
+  shared-small n e = omega (arith, overlapping, p .size, overlap-both (p .l .times) (next .times) .0)
 
   rest-next : loadFrom g (loadBlock g (p .l) next) (drop (suc number) (x .blocks)) ≡ loads g (x .blocks)
   unfolding loadFrom
   rest-next = subst (λ (bs : List (Block (List Entry))). loadFrom g (p .l) bs ≡ loads g (x .blocks)) (blocks-left x number h) (p .rest)
 
-  -- what the block's changes make of the output
-  made : allTaken (kindAt x g) c w (outputAs (kindAt x g) b s index' bytes') (changesIn x number g times) ≡ holding (kindAt x g) c w index bytes (loadBlock g (p .l) next .entries)
-  made =
-      ap (λ (q : Output). allTaken (kindAt x g) c w q (changesIn x number g times)) (p .same)
-      ∙ taken-pushed (kindAt x g) c w index bytes (p .l .entries) (changesIn x number g times)
-      ∙ ap (λ (n : ℕ). holding (kindAt x g) c w index bytes (pushed (p .l .entries) (moved n (entriesIn (partAt next g)))))
-      (ap (baseOf number) (p .size) ∙ sym (joined .base))
+  module _ (base : ℕ) (from : base ≡ length (p .l .times) - overlap (p .l .times) (next .times)) where
+    -- what the block's changes make of the output
+    made : allTaken (kindAt x g) c w (outputAs (kindAt x g) b s index' bytes') (changesIn x number g base) ≡ holding (kindAt x g) c w index bytes (loadBlock g (p .l) next .entries)
+    made =
+        ap (λ (q : Output). allTaken (kindAt x g) c w q (changesIn x number g base)) (p .same)
+        ∙ taken-pushed (kindAt x g) c w index bytes (p .l .entries) (changesIn x number g base)
+        ∙ ap (λ (n : ℕ). holding (kindAt x g) c w index bytes (pushed (p .l .entries) (moved n (entriesIn (partAt next g))))) from
 
-  pub next-room : Room w (holding (kindAt x g) c w index bytes (loads g (x .blocks) .entries)) (length index) (length bytes)
-      → Room w (allTaken (kindAt x g) c w (outputAs (kindAt x g) b s index' bytes') (changesIn x number g times)) (length index') (length bytes')
-  next-room r =
-      let k = kindAt x g in
-      let z = passing-sizes b g c w index bytes number at times s index' bytes' p in
-      let grown = subst (λ (l : Load). Grows (holding k c w index bytes (loadBlock g (p .l) next .entries)) (holding k c w index bytes (l .entries))) rest-next
-      (blocks-grow k c w index bytes g (loadBlock g (p .l) next) (drop (suc number) (x .blocks))) in
-      rw (made, z .0, z .1) (room-first w _ _ (length index) (length bytes) grown r)
+    made-room : Room w (holding (kindAt x g) c w index bytes (loads g (x .blocks) .entries)) (length index) (length bytes)
+        → Room w (allTaken (kindAt x g) c w (outputAs (kindAt x g) b s index' bytes') (changesIn x number g base)) (length index') (length bytes')
+    made-room r =
+        let k = kindAt x g in
+        let z = passing-sizes b g c w index bytes number at times later end s index' bytes' p in
+        let grown = subst (λ (l : Load). Grows (holding k c w index bytes (loadBlock g (p .l) next .entries)) (holding k c w index bytes (l .entries))) rest-next
+        (blocks-grow k c w index bytes g (loadBlock g (p .l) next) (drop (suc number) (x .blocks))) in
+        rw (made, z .0, z .1) (room-first w _ _ (length index) (length bytes) grown r)
 
   pub next-class : loads g (x .blocks) .class ≤ c → topOf x number g ≤ c
   next-class q =
@@ -191,36 +146,43 @@ module _ (b : List ℕ) (g c : ℕ) (w : Bool) (index bytes : List ℕ) (number 
       let m = head-in b y o .most in
       (omega arith, omega arith)
 
-  pub passing-on : (times' at' : ℕ) (s' : Loading) (i j : List ℕ) → times' ≡ baseOf number times + length (next .times) → at' ≡ blockPlace x (suc number)
-      → KeptReads (kindAt x g) b (s' .last) → s' .count ≤ blockPlace x (suc number)
-      → outputAs (kindAt x g) b s' i j ≡ allTaken (kindAt x g) c w (outputAs (kindAt x g) b s index' bytes') (changesIn x number g times)
-      → Passing b g c w index bytes (number + 1) at' times' s' i j
-  passing-on times' at' s' i j e f r few q =
-      let m = joined in
-      let n : number + 1 ≡ suc number = omega arith in
-      let z : times' ≡ length (joinTimes (p .l .times) (next .times)) = e ∙ ap (λ (u : ℕ). baseOf number u + length (next .times)) (p .size) ∙ sym (m .size) in
-      rw n (record {
-        l = loadBlock g (p .l) next;
-        tops = topsAfter (p .tops) (next .parts);
-        rest = rest-next;
-        fit = rw (m .last) (fit-next .1);
-        inside = h;
-        size = z;
-        none-yet = λ u. absurd (omega arith);
-        many = omega (arith, m .more, p .many, p .size);
-        early = omega (arith, base-small number times, p .early, next-times .0);
-        few = omega arith;
-        place = f;
-        reads = r;
-        same = q ∙ made;
-      })
+  -- with n of its times in the table already
+  module _ (n base : ℕ) (e : n ≡ sharedTimes (endOf later end) (next .times)) (f : base ≡ times - n) where
+    from-base : base ≡ length (p .l .times) - overlap (p .l .times) (next .times)
+    from-base = omega (arith, e, f, overlapping, p .size)
 
-pub passed : (b : List ℕ) (g c : ℕ) (w : Bool) (index bytes : List ℕ) (number at times : ℕ) (s : Loading) (index' bytes' : List ℕ) → Bytes b → Opened b
-    → Passing b g c w index bytes number at times s index' bytes' → length (imageIn b .blocks) ≤ number
+    pub base-early : base ≤ at
+    base-early = omega (arith, f, p .early)
+
+    pub next-room : Room w (holding (kindAt x g) c w index bytes (loads g (x .blocks) .entries)) (length index) (length bytes)
+        → Room w (allTaken (kindAt x g) c w (outputAs (kindAt x g) b s index' bytes') (changesIn x number g base)) (length index') (length bytes')
+    next-room r = made-room base from-base r
+
+    pub passing-on : (times' at' end' : ℕ) (s' : Loading) (i j : List ℕ) → times' ≡ base + length (next .times) → at' ≡ blockPlace x (suc number) → end' ≡ lastOr 0 (next .times)
+        → KeptReads (kindAt x g) b (s' .last) → s' .count ≤ blockPlace x (suc number)
+        → outputAs (kindAt x g) b s' i j ≡ allTaken (kindAt x g) c w (outputAs (kindAt x g) b s index' bytes') (changesIn x number g base)
+        → Passing b g c w index bytes (number + 1) at' times' true end' s' i j
+    passing-on times' at' end' s' i j k l u r few q =
+        let m : number + 1 ≡ suc number = omega arith in
+        rw m (record {
+          l = loadBlock g (p .l) next;
+          rest = rest-next;
+          inside = h;
+          size = k ∙ ap (λ (v : ℕ). v + length (next .times)) from-base ∙ sym (joined-length (p .l .times) (next .times));
+          ends = last-joined (p .l .times) (next .times) (any-time number b y o h) ∙ ap some (sym u);
+          early = omega (arith, base-early, next-times .0);
+          few = omega arith;
+          place = l;
+          reads = r;
+          same = q ∙ made base from-base;
+        })
+
+pub passed : (b : List ℕ) (g c : ℕ) (w : Bool) (index bytes : List ℕ) (number at times : ℕ) (later : Bool) (end : ℕ) (s : Loading) (index' bytes' : List ℕ) → Bytes b → Opened b
+    → Passing b g c w index bytes number at times later end s index' bytes' → length (imageIn b .blocks) ≤ number
     → (s .count ≤ imageLimit)
     × (outputAs (kindAt (imageIn b) g) b s index' bytes' ≡ holding (kindAt (imageIn b) g) c w index bytes (loads g (imageIn b .blocks) .entries))
 unfolding loadFrom
-passed b g c w index bytes number at times s index' bytes' y o p h =
+passed b g c w index bytes number at times later end s index' bytes' y o p h =
     let x = imageIn b in
     let none-left : drop number (x .blocks) ≡ [] = drop-of-length-le (x .blocks) h in
     let all : p .l ≡ loads g (x .blocks) = subst (λ (bs : List (Block (List Entry))). loadFrom g (p .l) bs ≡ loads g (x .blocks)) none-left (p .rest) in

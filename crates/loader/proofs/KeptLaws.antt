@@ -18,7 +18,7 @@ use Rattle.signal.specs.Content.{ContentFits, symbolsOf}
 use Rattle.stream.specs.Entries.{Entry, orNine}
 use Rattle.image.specs.Block.{Part, Block}
 use Rattle.image.specs.Image.{Image}
-use Rattle.codec.specs.Valid.{EntriesFit, OptionFits, topsAfter, firstIndex, BlocksFit, Valid}
+use Rattle.codec.specs.Valid.{EntriesFit, OptionFits, BlocksFit, Valid}
 use Rattle.codec.proofs.ImageFits.{top-small}
 use Rattle.codec.proofs.Growth.{parts-each}
 use Rattle.loaded.specs.Opener.{kindAt, partAt, streamIn}
@@ -84,32 +84,32 @@ module _ (limit : ℕ) (ks : List SignalEncoding) (g : ℕ) where
   abbrev kind : SignalEncoding
   kind = getD ks g Absent
 
-  loads-kept : (c n : ℕ) (end : Option ℕ) (tops : List ℕ) (l : Load) (bs : List (Block (List Entry))) → BlocksFit limit ks end tops bs
+  loads-kept : (c n : ℕ) (end : Option ℕ) (l : Load) (bs : List (Block (List Entry))) → BlocksFit limit ks end bs
       → loadFrom g l bs .class ≤ c → length (loadFrom g l bs .times) ≤ n → EachKept kind c n (l .entries) → EachKept kind c n (loadFrom g l bs .entries)
   unfolding loadFrom
-  loads-kept c n end tops l [] f h z e = e
-  loads-kept c n end tops l (y ∷ bs) f h z e =
-      let p = parts-each (length (y .times)) (firstIndex end) ks tops (y .parts) (f .0 .parts) g in
-      let new = moved-kept kind c n (length (y .times)) (firstIndex end) (topIn (partAt y g)) (length (l .times) - overlap (l .times) (y .times)) (entriesIn (partAt y g))
-      (entries-fit kind (length (y .times)) (firstIndex end) (getD tops g 0) (partAt y g) p)
+  loads-kept c n end l [] f h z e = e
+  loads-kept c n end l (y ∷ bs) f h z e =
+      let p = parts-each (length (y .times)) ks (y .parts) (f .1 .0 .parts) g in
+      let new = moved-kept kind c n (length (y .times)) 0 (topIn (partAt y g)) (length (l .times) - overlap (l .times) (y .times)) (entriesIn (partAt y g))
+      (entries-fit kind (length (y .times)) (partAt y g) p)
       (omega (arith, class-grows g (loadBlock g l y) bs))
       (omega (arith, times-grow g (loadBlock g l y) bs, joined-length (l .times) (y .times))) in
-      loads-kept c n (some (lastOr 0 (y .times))) (topsAfter tops (y .parts)) (loadBlock g l y) bs (f .1) h z (pushed-kept kind c n (l .entries) _ e new)
+      loads-kept c n (some (lastOr 0 (y .times))) (loadBlock g l y) bs (f .1 .1) h z (pushed-kept kind c n (l .entries) _ e new)
 
 -- ---- the class
 
-top-two : (k : SignalEncoding) (n i before : ℕ) (p : Option (Part (List Entry))) → OptionFits k n i before p → topIn p ≤ 2
-top-two k n i before none f = omega arith
-top-two k n i before (some p) f = omega (arith, f .most, top-small k)
+top-two : (k : SignalEncoding) (n : ℕ) (p : Option (Part (List Entry))) → OptionFits k n p → topIn p ≤ 2
+top-two k n none f = omega arith
+top-two k n (some p) f = omega (arith, f .most, top-small k)
 
-class-two : (limit : ℕ) (ks : List SignalEncoding) (end : Option ℕ) (tops : List ℕ) (g : ℕ) (l : Load) (bs : List (Block (List Entry)))
-    → BlocksFit limit ks end tops bs → l .class ≤ 2 → loadFrom g l bs .class ≤ 2
+class-two : (limit : ℕ) (ks : List SignalEncoding) (end : Option ℕ) (g : ℕ) (l : Load) (bs : List (Block (List Entry)))
+    → BlocksFit limit ks end bs → l .class ≤ 2 → loadFrom g l bs .class ≤ 2
 unfolding loadFrom
-class-two limit ks end tops g l [] f h = h
-class-two limit ks end tops g l (y ∷ bs) f h =
-    let p = parts-each (length (y .times)) (firstIndex end) ks tops (y .parts) (f .0 .parts) g in
-    let t = top-two (getD ks g Absent) _ _ _ (partAt y g) p in
-    class-two limit ks (some (lastOr 0 (y .times))) (topsAfter tops (y .parts)) g (loadBlock g l y) bs (f .1) (omega arith)
+class-two limit ks end g l [] f h = h
+class-two limit ks end g l (y ∷ bs) f h =
+    let p = parts-each (length (y .times)) ks (y .parts) (f .1 .0 .parts) g in
+    let t = top-two (getD ks g Absent) _ (partAt y g) p in
+    class-two limit ks (some (lastOr 0 (y .times))) g (loadBlock g l y) bs (f .1 .1) (omega arith)
 
 nine-most : (es : List Entry) (c : ℕ) → c ≤ 2 → orNine es c ≤ 2
 nine-most [] c h = omega arith
@@ -124,7 +124,7 @@ module _ (x : Image) (v : Valid x) (g : ℕ) where
   loaded = loads g (x .blocks)
 
   pub top-most : loaded .class ≤ 2
-  top-most = class-two (x .limit) (x .kinds) none [] g (load [] [] 0) (x .blocks) (v .blocks) (omega arith)
+  top-most = class-two (x .limit) (x .kinds) none g (load [] [] 0) (x .blocks) (v .blocks) (omega arith)
 
   pub class-most : signalClass loaded ≤ 2
   class-most = nine-most (loaded .entries) (loaded .class) top-most
@@ -133,7 +133,7 @@ module _ (x : Image) (v : Valid x) (g : ℕ) where
   each-kept =
       let t = loaded-table g (x .blocks) in
       kept-nine (kindAt x g) (loaded .class) _ (loaded .entries)
-      (loads-kept (x .limit) (x .kinds) g (loaded .class) (length (tableFrom [] (x .blocks))) none [] (load [] [] 0) (x .blocks) (v .blocks) (omega arith) (omega (arith, ap length t)) tt)
+      (loads-kept (x .limit) (x .kinds) g (loaded .class) (length (tableFrom [] (x .blocks))) none (load [] [] 0) (x .blocks) (v .blocks) (omega arith) (omega (arith, ap length t)) tt)
 
   pub kept-fits : EachFits (kindAt x g) (signalClass loaded) (loaded .entries)
   kept-fits = by (kindAt x g) (signalClass loaded) (loaded .entries) each-kept
@@ -159,20 +159,20 @@ unfolding moved
 length-moved n [] = refl
 length-moved n (e ∷ es) = ap suc (length-moved n es)
 
-kept-few : (limit : ℕ) (ks : List SignalEncoding) (g : ℕ) (end : Option ℕ) (tops : List ℕ) (l : Load) (bs : List (Block (List Entry))) → BlocksFit limit ks end tops bs
+kept-few : (limit : ℕ) (ks : List SignalEncoding) (g : ℕ) (end : Option ℕ) (l : Load) (bs : List (Block (List Entry))) → BlocksFit limit ks end bs
     → length (loadFrom g l bs .entries) * leastLength (getD ks g Absent) ≤ length (l .entries) * leastLength (getD ks g Absent) + streamsLength (getD ks g Absent) g bs
 unfolding loadFrom streamsLength
-kept-few limit ks g end tops l [] f = omega arith
-kept-few limit ks g end tops l (y ∷ bs) f =
+kept-few limit ks g end l [] f = omega arith
+kept-few limit ks g end l (y ∷ bs) f =
     let k : SignalEncoding = getD ks g Absent in
     let es : List Entry = entriesIn (partAt y g) in
     let m : ℕ = length (l .times) - overlap (l .times) (y .times) in
-    let p = parts-each (length (y .times)) (firstIndex end) ks tops (y .parts) (f .0 .parts) g in
-    let here : length es * leastLength k ≤ length (streamIn k (partAt y g)) = part-least k (length (y .times)) (firstIndex end) (getD tops g 0) (partAt y g) p in
+    let p = parts-each (length (y .times)) ks (y .parts) (f .1 .0 .parts) g in
+    let here : length es * leastLength k ≤ length (streamIn k (partAt y g)) = part-least k (length (y .times)) (partAt y g) p in
     let grown : length (loadBlock g l y .entries) ≤ length (l .entries) + length es = omega (arith, pushed-few (l .entries) (moved m es), length-moved m es) in
     let most : length (loadBlock g l y .entries) * leastLength k ≤ (length (l .entries) + length es) * leastLength k = mul-le-mul grown (omega arith) in
-    let rest = kept-few limit ks g (some (lastOr 0 (y .times))) (topsAfter tops (y .parts)) (loadBlock g l y) bs (f .1) in
+    let rest = kept-few limit ks g (some (lastOr 0 (y .times))) (loadBlock g l y) bs (f .1 .1) in
     omega arith
 
 pub kept-least : (x : Image) → Valid x → (g : ℕ) → length (loads g (x .blocks) .entries) * leastLength (kindAt x g) ≤ streamsLength (kindAt x g) g (x .blocks)
-kept-least x v g = omega (arith, kept-few (x .limit) (x .kinds) g none [] (load [] [] 0) (x .blocks) (v .blocks))
+kept-least x v g = omega (arith, kept-few (x .limit) (x .kinds) g none (load [] [] 0) (x .blocks) (v .blocks))

@@ -70,6 +70,6 @@ stream-least k n j i top (e ∷ es) f =
     let r = stream-least k n (e .index) (e .index) top es (f .1) in
     omega (arith, length-append (changeBytes k (e .index - j) (e .content)) (streamBytes k (e .index) es))
 
-pub part-least : (k : SignalEncoding) (n i before : ℕ) (p : Option (Part (List Entry))) → OptionFits k n i before p → length (entriesIn p) * leastLength k ≤ length (streamIn k p)
-part-least k n i before none f = omega arith
-part-least k n i before (some p) f = stream-least k n 0 i (p .top) (p .stream) (f .entries)
+pub part-least : (k : SignalEncoding) (n : ℕ) (p : Option (Part (List Entry))) → OptionFits k n p → length (entriesIn p) * leastLength k ≤ length (streamIn k p)
+part-least k n none f = omega arith
+part-least k n (some p) f = stream-least k n 0 0 (p .top) (p .stream) (f .entries)

@@ -2,12 +2,13 @@
 use crate::changes::Loading;
 use crate::changes::load_block;
 use crate::changes::nothing_kept;
-use crate::changes::table_base;
 use value::states::States;
 use walk::block::first_block;
+use walk::block::last_time;
 use walk::block::next_block;
 use walk::block::times_in;
 use walk::head::block_count;
+use walk::table::shared;
 ghost use mathlib.Core.Path.{_≡_};
 ghost use Prim.Native.Nat.{_≤_};
 ghost use lib.ListN.{length};
@@ -34,21 +35,15 @@ pub fn load_blocks(
     let mut at = first_block(image);
     let mut number: u32 = 0;
     let mut times: u32 = 0;
+    let mut later = false;
+    let mut end: u64 = 0;
     let mut state = nothing_kept();
     while number < blocks {
-        state = load_block(
-            image,
-            number,
-            at,
-            signal,
-            class,
-            write,
-            times,
-            state,
-            index,
-            bytes,
-        );
-        times = table_base(number, times) + times_in(image, at);
+        let base = times - shared(image, at, later, end);
+        state = load_block(image, at, signal, class, write, base, state, index, bytes);
+        times = base + times_in(image, at);
+        end = last_time(image, at);
+        later = true;
         at = next_block(image, at);
         number += 1;
     }

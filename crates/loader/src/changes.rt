@@ -10,7 +10,7 @@ use value::states::States;
 use walk::head::kind_at;
 use walk::part::part_in;
 ghost use mathlib.Core.Path.{_≡_};
-ghost use Prim.Native.Nat.{suc, _+_, _≤_, _<_, _^_};
+ghost use Prim.Native.Nat.{ℕ, suc, _+_, _≤_, _<_, _^_};
 ghost use lib.ListN.{length, set};
 ghost use lib.Seq.{sets};
 ghost use Rattle.value.specs.Class.{classNumber, classOfAll};
@@ -21,7 +21,7 @@ ghost use Rattle.entry.specs.Read.{contentRead, Reads};
 ghost use Rattle.entry.specs.Kept.{KeptReads};
 ghost use Rattle.walk.specs.Walk.{Opened, imageIn, blockPlace, BlockHere};
 ghost use Rattle.loader.specs.Output.{taken, Room, nothingKept, outputAs};
-ghost use Rattle.loader.specs.Blocks.{baseOf, topOf, outputIn, blockTaken};
+ghost use Rattle.loader.specs.Blocks.{outputIn, blockTaken, BlockRoom};
 
 // How many entries are kept, how many bytes of the output they took, the last of them.
 pub struct Loading {
@@ -103,39 +103,27 @@ fn take_change(
     one_more(state, used, last)
 }
 
-// Where the times of a block begin in the combined table: its first time is there already, unless it is the first block.
-pub fn table_base(number: u32, times: u32) -> u32
-    requires { ⌜ number ≤ times ⌝ }
-    ensures { λ r. ⌜ r ≡ baseOf number times ⌝ }
-{
-    if number == 0 {
-        return 0;
-    }
-    times - 1
-}
-
-// The changes of a signal in block number `number`, which begins at a place; so many times precede it in the combined table.
+// The changes of a signal in the block that begins at a place; its times begin at index `base` of the combined table.
 pub fn load_block(
     image: &[u8],
-    number: u32,
     at: usize,
     signal: u32,
     class: States,
     write: bool,
-    times: u32,
+    base: u32,
     state: Loading,
     index: &mut [u32],
     bytes: &mut [u8],
 ) -> Loading
-    requires { ⌜ Opened (now image) × BlockHere number at (now image) × KeptReads (kindAt (imageIn (now image)) signal) (now image) (state .last) × (topOf (imageIn (now image)) number signal ≤ classNumber class) ⌝ }
-    requires { ⌜ (number ≤ times) × (times ≤ at) × (state .count ≤ at) × Room write (blockTaken (now image) number signal times (classNumber class) write (outputIn (now image) signal state (now index) (now bytes))) (length (now index)) (length (now bytes)) ⌝ }
-    ensures { λ r. ⌜ KeptReads (kindAt (imageIn (now (image .entry))) signal) (now (image .entry)) (r .last) × (r .count ≤ blockPlace (imageIn (now (image .entry))) (suc number)) × (outputIn (now (image .entry)) signal r (now (index .exit)) (now (bytes .exit)) ≡ blockTaken (now (image .entry)) number signal times (classNumber class) write (outputIn (now (image .entry)) signal state (now (index .entry)) (now (bytes .entry)))) ⌝ }
+    requires { ⌜ Opened (now image) × KeptReads (kindAt (imageIn (now image)) signal) (now image) (state .last) × (base ≤ at) × (state .count ≤ at) ⌝ }
+    requires { ⌜ BlockRoom (now image) at signal base (classNumber class) write (outputIn (now image) signal state (now index) (now bytes)) (length (now index)) (length (now bytes)) ⌝ }
+    ensures { λ r. ⌜ KeptReads (kindAt (imageIn (now (image .entry))) signal) (now (image .entry)) (r .last) × ((n : ℕ) → BlockHere n at (now (image .entry)) → (r .count ≤ blockPlace (imageIn (now (image .entry))) (suc n)) × (outputIn (now (image .entry)) signal r (now (index .exit)) (now (bytes .exit)) ≡ blockTaken (now (image .entry)) n signal base (classNumber class) write (outputIn (now (image .entry)) signal state (now (index .entry)) (now (bytes .entry))))) ⌝ }
 {
     let kind = kind_at(image, signal);
     let part = part_in(image, at, signal);
     let to = part.to;
     let mut p = part.from;
-    let mut i = table_base(number, times);
+    let mut i = base;
     let mut state = state;
     while p < to {
         match known_change(image, p, kind) {

@@ -16,7 +16,7 @@ use Rattle.stream.specs.Entries.{Entry, entry, repeats, orNine}
 use Rattle.image.specs.Block.{Part, Block}
 use Rattle.history.specs.History.{Change, listOf, topOf, kept, keptAfter}
 use Rattle.loaded.specs.Opener.{partAt}
-use Rattle.loaded.specs.Loading.{overlap, joinTimes, tableFrom, moved, repeatsLast, pushed, Load, load, entriesIn, topIn, loadBlock, loadFrom, loads}
+use Rattle.loaded.specs.Loading.{overlap, joinTimes, tableFrom, moved, repeatsLast, pushed, Load, load, entriesIn, topIn, loadBlock, loadFrom}
 use Rattle.stream.proofs.RepeatLaws.{repeats-equal}
 use Rattle.model.specs.Model.{Chunk, noChunk, shifts, join, joined, tab, partWith, storedOf, imageOf}
 
@@ -86,18 +86,18 @@ stored-part n g seen b h =
 
 -- ---- loading with repeats not dropped
 
-abbrev allBlock : (g : ℕ) → Load → Block (List Entry) → Load
+abbrev pub allBlock : (g : ℕ) → Load → Block (List Entry) → Load
 allBlock g l b =
     load (joinTimes (l .times) (b .times))
     (l .entries ++ moved (length (l .times) - overlap (l .times) (b .times)) (entriesIn (partAt b g)))
     (max (l .class) (topIn (partAt b g)))
 
-unfoldable allFrom : (g : ℕ) → Load → List (Block (List Entry)) → Load
+unfoldable pub allFrom : (g : ℕ) → Load → List (Block (List Entry)) → Load
 allFrom g l [] = l
 allFrom g l (b ∷ bs) = allFrom g (allBlock g l b) bs
 
 -- the loaded signal of joined blocks
-abbrev view : (g : ℕ) → Chunk → Load
+abbrev pub view : (g : ℕ) → Chunk → Load
 view g b = load (b .times) (listOf g (b .changes)) (topOf g (b .changes))
 
 all-block : (n g : ℕ) (l b : Chunk) (seen : List Change) → g < n → topOf g (l .changes) ≡ topOf g seen
@@ -123,7 +123,7 @@ top-join g l b seen e =
     let m : ℕ = length (l .times) - overlap (l .times) (b .times) in
     top-append g (l .changes) (shifts m (b .changes)) ∙ ap₂ max e (top-shifts g m (b .changes)) ∙ sym (top-append g seen (b .changes))
 
-all-from : (n g : ℕ) (bs : List Chunk) (l : Chunk) (seen : List Change) → g < n → topOf g (l .changes) ≡ topOf g seen
+pub all-from : (n g : ℕ) (bs : List Chunk) (l : Chunk) (seen : List Change) → g < n → topOf g (l .changes) ≡ topOf g seen
     → allFrom g (view g l) (imageOf n seen bs) ≡ view g (joined l bs)
 unfolding allFrom imageOf joined
 all-from n g [] l seen h e = refl
@@ -161,7 +161,7 @@ pushed-append [] b out = refl
 pushed-append (e ∷ a) b out = pushed-append a b (pick (repeatsLast out (e .content)) out (out ++ e ∷ []))
 
 -- dropping repeats block by block into one output is dropping them in the whole
-abbrev dropped : Load → Load
+abbrev pub dropped : Load → Load
 dropped l = load (l .times) (pushed [] (l .entries)) (l .class)
 
 drop-block : (g : ℕ) (l : Load) (b : Block (List Entry)) → loadBlock g (dropped l) b ≡ dropped (allBlock g l b)
@@ -170,19 +170,12 @@ drop-block g l b =
     ap (λ (es : List Entry). load (joinTimes (l .times) (b .times)) es (max (l .class) (topIn (partAt b g))))
     (sym (pushed-append (l .entries) (moved m (entriesIn (partAt b g))) []))
 
-drop-from : (g : ℕ) (bs : List (Block (List Entry))) (l : Load) → loadFrom g (dropped l) bs ≡ dropped (allFrom g l bs)
+pub drop-from : (g : ℕ) (bs : List (Block (List Entry))) (l : Load) → loadFrom g (dropped l) bs ≡ dropped (allFrom g l bs)
 unfolding loadFrom allFrom
 drop-from g [] l = refl
 drop-from g (b ∷ bs) l = ap (λ (x : Load). loadFrom g x bs) (drop-block g l b) ∙ drop-from g bs (allBlock g l b)
 
 -- ---- the image of blocks
-
-pub load-image : (n g : ℕ) (bs : List Chunk) → g < n
-    → loads g (imageOf n [] bs) ≡ load (joined noChunk bs .times) (kept (listOf g (joined noChunk bs .changes))) (topOf g (joined noChunk bs .changes))
-unfolding pushed listOf topOf
-load-image n g bs h =
-    drop-from g (imageOf n [] bs) (load [] [] 0) ∙ ap dropped (all-from n g bs noChunk [] h refl)
-    ∙ ap (λ (es : List Entry). load (joined noChunk bs .times) es (topOf g (joined noChunk bs .changes))) (pushed-kept (listOf g (joined noChunk bs .changes)))
 
 table-from : (n : ℕ) (bs : List Chunk) (l : Chunk) (seen : List Change) → tableFrom (l .times) (imageOf n seen bs) ≡ joined l bs .times
 unfolding tableFrom imageOf joined join

@@ -1,4 +1,4 @@
--- A list of calls for every valid image, time by time and signal by signal, and that the model takes it whole and has the image's blocks.
+-- A list of calls for every block that fits, time by time and signal by signal, and that the model takes it whole and has the block.
 -- Assumes nothing.
 use Prim.Native.Nat.{ℕ, zero, suc, _+_, _-_, _≤_, _<_, max}
 use mathlib.Core.Path.{_≡_, refl, sym, ap, ap₂, _∙_, subst}
@@ -20,14 +20,12 @@ use Rattle.signal.specs.Content.{Content, accept, decode}
 use Rattle.signal.proofs.SayLaws.{sayOf, say-decodes}
 use Rattle.stream.specs.Entries.{Entry, entry}
 use Rattle.image.specs.Block.{Part, Block, part, block}
-use Rattle.codec.specs.Valid.{RisingFrom, Rising, EntriesFit, OptionFits, topAfter, topsAfter, Begins, firstIndex, Filled, BlockFits, BlocksFit}
-use Rattle.codec.proofs.Growth.{parts-each, parts-count, tops-at}
-use Rattle.codec.proofs.ImageFits.{filled-small}
+use Rattle.codec.specs.Valid.{RisingFrom, Rising, EntriesFit, OptionFits, BlockFits}
+use Rattle.codec.proofs.Growth.{parts-each, parts-count}
 use Rattle.recording.specs.Calls.{Call, time, change, finish, above, wayOf}
 use Rattle.history.specs.History.{Change, listOf, topOf}
-use Rattle.model.specs.Model.{Chunk, chunk, Model, model, noModel, cut, modelTime, modelChange, modelStep, tab, partWith, storedOf, imageOf}
-use Rattle.model.proofs.LoadLaws.{pick-append, top-append}
-use Rattle.model.proofs.ValidLaws.{seenOf, seen-snoc, image-snoc}
+use Rattle.model.specs.Model.{Chunk, chunk, Model, model, noModel, modelTime, modelChange, modelStep, tab, partWith, storedOf, imageOf}
+use Rattle.model.proofs.LoadLaws.{pick-append}
 
 -- ---- the calls
 
@@ -72,19 +70,10 @@ module _ (ks : List SignalEncoding) where
   firstCalls [] ps = []
   firstCalls (t ∷ ts) ps = time t ∷ blockCalls 0 ts ps
 
-  -- the first time of a later block is the preceding end
-  unfoldable pub laterCalls : List ℕ → List (Part (List Entry)) → List Call
-  laterCalls [] ps = []
-  laterCalls (x ∷ []) ps = []
-  laterCalls (x ∷ t ∷ ts) ps = time t ∷ blockCalls 1 ts ps
-
-  unfoldable pub restCalls : List (Block (List Entry)) → List Call
-  restCalls [] = []
-  restCalls (s ∷ ss) = laterCalls (s .times) (bares (s .parts)) ++ restCalls ss
-
-  unfoldable pub imageCalls : List (Block (List Entry)) → List Call
-  imageCalls [] = []
-  imageCalls (s ∷ ss) = firstCalls (s .times) (bares (s .parts)) ++ restCalls ss
+  -- of a block, none where there is none
+  abbrev pub imageCalls : Option (Block (List Entry)) → List Call
+  imageCalls none = []
+  imageCalls (some s) = firstCalls (s .times) (bares (s .parts))
 
 -- ---- entries at an index, and the rest
 
@@ -263,36 +252,19 @@ block-of k n (t ∷ ts) i g ps e o =
 
 -- ---- the block that such changes make is the valid one
 
-part-back : (k : SignalEncoding) (n i : ℕ) (seen cs : List Change) (g : ℕ) (p : Option (Part (List Entry))) → OptionFits k n i (topOf g seen) p
-    → ofs g cs ≡ asChanges g (bare p .top) (bare p .stream) → partWith (topOf g (seen ++ cs)) (listOf g cs) ≡ p
-part-back k n i seen cs g none f o =
+part-back : (k : SignalEncoding) (n : ℕ) (cs : List Change) (g : ℕ) (p : Option (Part (List Entry))) → OptionFits k n p
+    → ofs g cs ≡ asChanges g (bare p .top) (bare p .stream) → partWith (topOf g cs) (listOf g cs) ≡ p
+part-back k n cs g none f o =
     let l : listOf g cs ≡ [] = ofs-list g cs ∙ ap (listOf g) o ∙ as-list g 0 [] in
     rw l refl
-part-back k n i seen cs g (some p) f o = go (p .stream) refl (f .any)
+part-back k n cs g (some p) f o = go (p .stream) refl (f .any)
   where
-    go : (es : List Entry) → p .stream ≡ es → 0 < length es → partWith (topOf g (seen ++ cs)) (listOf g cs) ≡ some p
+    go : (es : List Entry) → p .stream ≡ es → 0 < length es → partWith (topOf g cs) (listOf g cs) ≡ some p
     go [] q any = absurd (omega arith)
     go (x ∷ es) q any =
         let l : listOf g cs ≡ x ∷ es = ofs-list g cs ∙ ap (listOf g) o ∙ as-list g (p .top) (p .stream) ∙ q in
         let t : topOf g cs ≡ p .top = ofs-top g cs ∙ ap (topOf g) (o ∙ ap (asChanges g (p .top)) q) ∙ as-top g (p .top) x es in
-        let m : topOf g (seen ++ cs) ≡ p .top = omega (arith, top-append g seen cs, t, f .never-falls) in
-        ap₂ partWith m l ∙ ap (λ (s : List Entry). some (part (p .top) s)) (sym q)
-
--- and the top class after it
-top-back : (k : SignalEncoding) (n i : ℕ) (seen cs : List Change) (g : ℕ) (p : Option (Part (List Entry))) → OptionFits k n i (topOf g seen) p
-    → ofs g cs ≡ asChanges g (bare p .top) (bare p .stream) → topAfter (topOf g seen) p ≡ topOf g (seen ++ cs)
-unfolding asChanges
-top-back k n i seen cs g none f o =
-    let t : topOf g cs ≡ topOf g [] = ofs-top g cs ∙ ap (topOf g) o in
-    let z : topOf g [] ≡ 0 = unfold topOf in refl in
-    omega (arith, top-append g seen cs, t, z)
-top-back k n i seen cs g (some p) f o = go (p .stream) refl (f .any)
-  where
-    go : (es : List Entry) → p .stream ≡ es → 0 < length es → p .top ≡ topOf g (seen ++ cs)
-    go [] q any = absurd (omega arith)
-    go (x ∷ es) q any =
-        let t : topOf g cs ≡ p .top = ofs-top g cs ∙ ap (topOf g) (o ∙ ap (asChanges g (p .top)) q) ∙ as-top g (p .top) x es in
-        omega (arith, top-append g seen cs, t, f .never-falls)
+        ap₂ partWith t l ∙ ap (λ (s : List Entry). some (part (p .top) s)) (sym q)
 
 bares-at : (g : ℕ) (ps : List (Option (Part (List Entry)))) → getD (bares ps) g noPart ≡ bare (getD ps g none)
 unfolding bares
@@ -426,11 +398,6 @@ module _ (limit : ℕ) (ks : List SignalEncoding) where
       let n : length ts ≡ limit → ⊥ = λ e. omega arith in
       ap (modelTime limit (live bs ts cs) t) (way-take ts t h m) ∙ rw (ne-eqb (length ts) limit n) refl
 
-  time-cuts : (bs : List Chunk) (ts : List ℕ) (cs : List Change) (t : ℕ) → 0 < length ts → length ts ≡ limit → lastOr 0 ts < t
-      → modelStep ks limit (live bs ts cs) (time t) false ≡ live (bs ++ chunk ts cs ∷ []) (lastOr 0 ts ∷ t ∷ []) []
-  unfolding modelStep modelTime cut
-  time-cuts bs ts cs t h l m = ap (modelTime limit (live bs ts cs) t) (way-take ts t h m) ∙ rw (eq-eqb (length ts) limit l) refl
-
   block-take : (us ts : List ℕ) (i : ℕ) (ps : List (Part (List Entry))) (bs : List Chunk) (cs : List Change) → length ts ≡ suc i → length ts + length us ≤ limit
       → RisingFrom (lastOr 0 ts) us → SaidAll 0 ps → Takes (live bs ts cs) (blockCalls ks i us ps) (live bs (ts ++ us) (cs ++ blockMarks i us ps))
   unfolding blockCalls blockMarks
@@ -455,118 +422,52 @@ module _ (limit : ℕ) (ks : List SignalEncoding) where
   -- ---- a block
 
   -- by signal: what its part says fits, with a class that the kind can have
-  part-said : (k : SignalEncoding) (n i before : ℕ) (p : Option (Part (List Entry))) → OptionFits k n i before p
-      → EntriesFit k n i (bare p .top) (bare p .stream) × (bare p .top ≤ topLimit k)
-  part-said k n i before none f = (tt, omega arith)
-  part-said k n i before (some p) f = (f .entries, f .most)
+  part-said : (k : SignalEncoding) (n : ℕ) (p : Option (Part (List Entry))) → OptionFits k n p
+      → EntriesFit k n 0 (bare p .top) (bare p .stream) × (bare p .top ≤ topLimit k)
+  part-said k n none f = (tt, omega arith)
+  part-said k n (some p) f = (f .entries, f .most)
 
-  module _ (end : Option ℕ) (tops : List ℕ) (s : Block (List Entry)) (follow : ℕ) (f : BlockFits limit ks end tops s follow) where
+  module _ (s : Block (List Entry)) (f : BlockFits limit ks s) where
     abbrev Count : ℕ
     Count = length (s .times)
 
-    each-said : (g : ℕ) → EntriesFit (getD ks g Absent) Count (firstIndex end) (bare (getD (s .parts) g none) .top) (bare (getD (s .parts) g none) .stream)
+    each-said : (g : ℕ) → EntriesFit (getD ks g Absent) Count 0 (bare (getD (s .parts) g none) .top) (bare (getD (s .parts) g none) .stream)
         × (bare (getD (s .parts) g none) .top ≤ topLimit (getD ks g Absent))
-    each-said g = part-said (getD ks g Absent) Count (firstIndex end) (getD tops g 0) (getD (s .parts) g none) (parts-each Count (firstIndex end) ks tops (s .parts) (f .parts) g)
+    each-said g = part-said (getD ks g Absent) Count (getD (s .parts) g none) (parts-each Count ks (s .parts) (f .parts) g)
 
     said-all : SaidAll 0 (bares (s .parts))
     said-all j =
         let e = each-said j in
         subst (λ (p : Part (List Entry)). Said (0 + j) (p .top) (p .stream)) (sym (bares-at j (s .parts)))
         (subst (λ (x : ℕ). Said x (bare (getD (s .parts) j none) .top) (bare (getD (s .parts) j none) .stream)) (sym (zero-add j))
-        (said-fits j (bare (getD (s .parts) j none) .top) Count (firstIndex end) (bare (getD (s .parts) j none) .stream) (e .1) (e .0)))
+        (said-fits j (bare (getD (s .parts) j none) .top) Count 0 (bare (getD (s .parts) j none) .stream) (e .1) (e .0)))
 
     -- what the calls of the block record of each signal
-    marks-of : (us : List ℕ) → Count ≡ suc (firstIndex end) + length us → (g : ℕ)
-        → ofs g (blockMarks (firstIndex end) us (bares (s .parts))) ≡ asChanges g (bare (getD (s .parts) g none) .top) (bare (getD (s .parts) g none) .stream)
+    marks-of : (us : List ℕ) → Count ≡ suc 0 + length us → (g : ℕ)
+        → ofs g (blockMarks 0 us (bares (s .parts))) ≡ asChanges g (bare (getD (s .parts) g none) .top) (bare (getD (s .parts) g none) .stream)
     marks-of us e g =
         let b = bares-at g (s .parts) in
-        subst (λ (p : Part (List Entry)). ofs g (blockMarks (firstIndex end) us (bares (s .parts))) ≡ asChanges g (p .top) (p .stream)) b
-        (block-of (getD ks g Absent) Count us (firstIndex end) g (bares (s .parts)) e
-        (subst (λ (p : Part (List Entry)). EntriesFit (getD ks g Absent) Count (firstIndex end) (p .top) (p .stream)) (sym b) (each-said g .0)))
+        subst (λ (p : Part (List Entry)). ofs g (blockMarks 0 us (bares (s .parts))) ≡ asChanges g (p .top) (p .stream)) b
+        (block-of (getD ks g Absent) Count us 0 g (bares (s .parts)) e
+        (subst (λ (p : Part (List Entry)). EntriesFit (getD ks g Absent) Count 0 (p .top) (p .stream)) (sym b) (each-said g .0)))
 
-    module _ (seen cs : List Change) (e : (g : ℕ) → g < length ks → getD tops g 0 ≡ topOf g seen)
-        (o : (g : ℕ) → ofs g cs ≡ asChanges g (bare (getD (s .parts) g none) .top) (bare (getD (s .parts) g none) .stream)) where
-      option-fits : (g : ℕ) → g < length ks → OptionFits (getD ks g Absent) Count (firstIndex end) (topOf g seen) (getD (s .parts) g none)
-      option-fits g h =
-          subst (λ (t : ℕ). OptionFits (getD ks g Absent) Count (firstIndex end) t (getD (s .parts) g none)) (e g h)
-          (parts-each Count (firstIndex end) ks tops (s .parts) (f .parts) g)
+    stored-back : (cs : List Change) → ((g : ℕ) → ofs g cs ≡ asChanges g (bare (getD (s .parts) g none) .top) (bare (getD (s .parts) g none) .stream))
+        → storedOf (length ks) cs (chunk (s .times) cs) ≡ s
+    stored-back cs o =
+        let c = parts-count Count ks (s .parts) (f .parts) in
+        let t = tab-ext 0 (length ks) (λ (g : ℕ). partWith (topOf g cs) (listOf g cs)) (λ (g : ℕ). getD (s .parts) g none)
+        (λ g h. part-back (getD ks g Absent) Count cs g (getD (s .parts) g none) (parts-each Count ks (s .parts) (f .parts) g) (o g)) in
+        let q : tab 0 (length ks) (λ (g : ℕ). partWith (topOf g cs) (listOf g cs)) ≡ s .parts =
+        t ∙ ap (λ (n : ℕ). tab 0 n (λ (g : ℕ). getD (s .parts) g none)) (sym c) ∙ tab-self (s .parts) none in
+        ap (block (s .times)) q
 
-      stored-back : storedOf (length ks) (seen ++ cs) (chunk (s .times) cs) ≡ s
-      stored-back =
-          let c = parts-count Count (firstIndex end) ks tops (s .parts) (f .parts) in
-          let t = tab-ext 0 (length ks) (λ (g : ℕ). partWith (topOf g (seen ++ cs)) (listOf g cs)) (λ (g : ℕ). getD (s .parts) g none)
-          (λ g h. let h' : g < length ks = omega arith in part-back (getD ks g Absent) Count (firstIndex end) seen cs g (getD (s .parts) g none) (option-fits g h') (o g)) in
-          let q : tab 0 (length ks) (λ (g : ℕ). partWith (topOf g (seen ++ cs)) (listOf g cs)) ≡ s .parts =
-          t ∙ ap (λ (n : ℕ). tab 0 n (λ (g : ℕ). getD (s .parts) g none)) (sym c) ∙ tab-self (s .parts) none in
-          ap (block (s .times)) q
-
-      tops-back : (g : ℕ) → g < length ks → getD (topsAfter tops (s .parts)) g 0 ≡ topOf g (seen ++ cs)
-      tops-back g h =
-          let c = parts-count Count (firstIndex end) ks tops (s .parts) (f .parts) in
-          tops-at g tops (s .parts) (omega arith) ∙ ap (λ (t : ℕ). topAfter t (getD (s .parts) g none)) (e g h)
-          ∙ top-back (getD ks g Absent) Count (firstIndex end) seen cs g (getD (s .parts) g none) (option-fits g h) (o g)
-
-  -- ---- an image
-
-  later-take : (s : Block (List Entry)) (times : List ℕ) (bs : List Chunk) (ts : List ℕ) (cs : List Change) → 0 < length ts → length ts ≡ limit
-      → Begins (some (lastOr 0 ts)) times → Rising times → length times ≤ limit → SaidAll 0 (bares (s .parts))
-      → Takes (live bs ts cs) (laterCalls ks times (bares (s .parts))) (live (bs ++ chunk ts cs ∷ []) times (blockMarks 1 (drop 2 times) (bares (s .parts))))
-  unfolding laterCalls
-  later-take s [] bs ts cs k l b r f v = absurd (omega (arith, b .0))
-  later-take s (x ∷ []) bs ts cs k l b r f v = absurd (omega (arith, b .0))
-  later-take s (x ∷ t ∷ us) bs ts cs k l b r f v =
-      let lt : lastOr 0 ts < t = omega (arith, r .0, b .1) in
-      let bs′ : List Chunk = bs ++ chunk ts cs ∷ [] in
-      let q : modelStep ks limit (live bs ts cs) (time t) false ≡ live bs′ (x ∷ t ∷ []) [] = time-cuts bs ts cs t k l lt ∙ ap (λ (y : ℕ). live bs′ (y ∷ t ∷ []) []) (sym (b .1)) in
-      takes-cons (live bs ts cs) (live bs′ (x ∷ t ∷ []) []) (live bs′ (x ∷ t ∷ us) (blockMarks 1 us (bares (s .parts)))) (time t) (blockCalls ks 1 us (bares (s .parts))) refl tt q
-      (block-take us (x ∷ t ∷ []) 1 (bares (s .parts)) bs′ [] refl (omega arith) (rises (r .1)) v)
-    where
-      rises : RisingFrom t us → RisingFrom (lastOr 0 (x ∷ t ∷ [])) us
-      rises h = unfold lastOr in h
-
-  -- a list of calls, taken whole, after which a finish leaves the blocks ss
-  pub record Rebuilt (p : Model) (cs : List Call) (ss : List (Block (List Entry))) : Type 0 where
-    pub blocks : List Chunk
+  -- a list of calls, taken whole, after which a finish leaves the block s
+  pub record Rebuilt (cs : List Call) (s : Block (List Entry)) : Type 0 where
     pub times : List ℕ
     pub marks : List Change
-    pub takes : Takes p cs (live blocks times marks)
+    pub takes : Takes noModel cs (live [] times marks)
     pub any : 0 < length times
-    pub image : imageOf (length ks) [] (blocks ++ chunk times marks ∷ []) ≡ ss
-
-  rest-take : (ss : List (Block (List Entry))) (bs : List Chunk) (ts : List ℕ) (cs : List Change) (tops : List ℕ) → 0 < length ts → Filled limit (length ts) (length ss)
-      → ((g : ℕ) → g < length ks → getD tops g 0 ≡ topOf g (seenOf bs ++ cs)) → BlocksFit limit ks (some (lastOr 0 ts)) tops ss
-      → Rebuilt (live bs ts cs) (restCalls ks ss) (imageOf (length ks) [] (bs ++ chunk ts cs ∷ []) ++ ss)
-  unfolding restCalls
-  rest-take [] bs ts cs tops k full e v = record {
-    blocks = bs;
-    times = ts;
-    marks = cs;
-    takes = takes-none (live bs ts cs) (live bs ts cs) refl;
-    any = k;
-    image = sym (append-nil (imageOf (length ks) [] (bs ++ chunk ts cs ∷ [])));
-  }
-  rest-take (s ∷ ss) bs ts cs tops k full e v =
-      let b = v .0 in
-      let bs′ : List Chunk = bs ++ chunk ts cs ∷ [] in
-      let us : List ℕ = drop 2 (s .times) in
-      let cs′ : List Change = blockMarks 1 us (bares (s .parts)) in
-      let lu : length (s .times) ≡ suc 1 + length us = omega (arith, length-drop 2 (s .times), b .begins .0) in
-      let o = marks-of (some (lastOr 0 ts)) tops s (length ss) b us lu in
-      let e′ : (g : ℕ) → g < length ks → getD tops g 0 ≡ topOf g (seenOf bs′) = λ g h. e g h ∙ ap (topOf g) (sym (seen-snoc bs (chunk ts cs))) in
-      let st = stored-back (some (lastOr 0 ts)) tops s (length ss) b (seenOf bs′) cs′ e′ o in
-      let ih = rest-take ss bs′ (s .times) cs′ (topsAfter tops (s .parts)) (omega (arith, b .begins .0)) (b .filled)
-      (tops-back (some (lastOr 0 ts)) tops s (length ss) b (seenOf bs′) cs′ e′ o) (v .1) in
-      let t = later-take s (s .times) bs ts cs k full (b .begins) (b .rising) (filled-small limit (length (s .times)) (length ss) (b .filled)) (said-all (some (lastOr 0 ts)) tops s (length ss) b) in
-      record {
-        blocks = ih .blocks;
-        times = ih .times;
-        marks = ih .marks;
-        takes = takes-append (laterCalls ks (s .times) (bares (s .parts))) (restCalls ks ss) (live bs ts cs) (live bs′ (s .times) cs′) (live (ih .blocks) (ih .times) (ih .marks)) t (ih .takes);
-        any = ih .any;
-        image = ih .image
-            ∙ ap (λ (x : List (Block (List Entry))). x ++ ss) (image-snoc (length ks) bs′ (chunk (s .times) cs′) [] ∙ ap (λ (x : Block (List Entry)). imageOf (length ks) [] bs′ ++ x ∷ []) st)
-            ∙ append-assoc (imageOf (length ks) [] bs′) (s ∷ []) ss;
-      }
+    pub image : imageOf (length ks) [] (chunk times marks ∷ []) ≡ s ∷ []
 
   first-take : (s : Block (List Entry)) (times : List ℕ) → 0 < limit → 1 ≤ length times → Rising times → length times ≤ limit → SaidAll 0 (bares (s .parts))
       → Takes noModel (firstCalls ks times (bares (s .parts))) (live [] times (blockMarks 0 (drop 1 times) (bares (s .parts))))
@@ -580,26 +481,17 @@ module _ (limit : ℕ) (ks : List SignalEncoding) where
       rises : RisingFrom t us → RisingFrom (lastOr 0 (t ∷ [])) us
       rises h = unfold lastOr in h
 
-  -- every image with a block is left by its list of calls and a finish
-  pub rebuild : (s : Block (List Entry)) (ss : List (Block (List Entry))) → 0 < limit → BlocksFit limit ks none [] (s ∷ ss) → Rebuilt noModel (imageCalls ks (s ∷ ss)) (s ∷ ss)
-  unfolding imageCalls imageOf seenOf
-  rebuild s ss pos v =
-      let b = v .0 in
+  -- every block that fits is left by its list of calls and a finish
+  pub rebuild : (s : Block (List Entry)) → 0 < limit → BlockFits limit ks s → Rebuilt (imageCalls ks (some s)) s
+  unfolding imageOf
+  rebuild s pos f =
       let us : List ℕ = drop 1 (s .times) in
       let cs : List Change = blockMarks 0 us (bares (s .parts)) in
-      let lu : length (s .times) ≡ suc 0 + length us = omega (arith, length-drop 1 (s .times), b .begins) in
-      let o = marks-of none [] s (length ss) b us lu in
-      let st = stored-back none [] s (length ss) b [] cs (λ g h. zero-top g) o in
-      let ih = rest-take ss [] (s .times) cs (topsAfter [] (s .parts)) (omega (arith, b .begins)) (b .filled) (tops-back none [] s (length ss) b [] cs (λ g h. zero-top g) o) (v .1) in
+      let lu : length (s .times) ≡ suc 0 + length us = omega (arith, length-drop 1 (s .times), f .any) in
       record {
-        blocks = ih .blocks;
-        times = ih .times;
-        marks = ih .marks;
-        takes = takes-append (firstCalls ks (s .times) (bares (s .parts))) (restCalls ks ss) noModel (live [] (s .times) cs) (live (ih .blocks) (ih .times) (ih .marks))
-            (first-take s (s .times) pos (b .begins) (b .rising) (filled-small limit (length (s .times)) (length ss) (b .filled)) (said-all none [] s (length ss) b)) (ih .takes);
-        any = ih .any;
-        image = ih .image ∙ ap (λ (x : Block (List Entry)). x ∷ ss) st;
+        times = s .times;
+        marks = cs;
+        takes = first-take s (s .times) pos (f .any) (f .rising) (f .few) (said-all s f);
+        any = f .any;
+        image = ap (λ (x : Block (List Entry)). x ∷ []) (stored-back s f cs (marks-of s f us lu));
       }
-    where
-      zero-top : (g : ℕ) → getD {A = ℕ} [] g 0 ≡ topOf g []
-      zero-top g = unfold topOf in refl

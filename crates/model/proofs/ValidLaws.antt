@@ -1,4 +1,4 @@
--- What the model leaves is valid: its finished blocks are full, and the open one may be finished as the last.
+-- What the model leaves is valid: each finished block fits by itself and starts with the end before it, and so does the open one.
 -- Assumes nothing.
 use Prim.Native.Nat.{ℕ, zero, suc, _+_, _-_, _≤_, _<_, _^_, max}
 use mathlib.Core.Path.{_≡_, refl, sym, ap, _∙_, subst}
@@ -18,13 +18,13 @@ use Rattle.signal.specs.Content.{Content, Given, vcd, raw, real, GivenFits, Dec
 use Rattle.signal.proofs.DecodeLaws.{Accepted, accepted}
 use Rattle.stream.specs.Entries.{Entry, entry}
 use Rattle.image.specs.Block.{Part, Block}
-use Rattle.codec.specs.Valid.{Rising, EachBelow, EntryFits, EntriesFit, OptionFits, topAfter, topsAfter, Begins, firstIndex, Filled, BlockFits, BlocksFit}
-use Rattle.codec.specs.Full.{FullBlocks, endAfter, topsLeft, lastIndex}
-use Rattle.codec.proofs.Growth.{entries-more, entries-wider, each-parts, tops-at, full-more, full-last}
+use Rattle.codec.specs.Valid.{Rising, EachBelow, EntryFits, EntriesFit, OptionFits, Starts, BlockFits, BlocksFit}
+use Rattle.codec.specs.Ends.{endAfter, lastIndex}
+use Rattle.codec.proofs.Growth.{entries-more, entries-wider, each-parts, blocks-join}
 use Rattle.recording.specs.Calls.{Call, time, change, finish, ValueFits, CallFits, Way, above, equal, below, wayOf, counted}
 use Rattle.history.specs.History.{Change, listOf, topOf}
 use Rattle.model.specs.Model.{Chunk, Model, model, noModel, cut, timed, modelTime, modelChange, close, noTime, modelStep, tab, partWith, storedOf, imageOf}
-use Rattle.model.proofs.LoadLaws.{list-append, top-append, top-none, stored-part}
+use Rattle.model.proofs.LoadLaws.{list-append, top-append, stored-part}
 use Rattle.model.proofs.HistoryLaws.{way-rising}
 
 -- ---- all changes of finished blocks, and the image with one block more
@@ -55,31 +55,12 @@ unfolding tab
 count-tab i zero f = refl
 count-tab i (suc n) f = ap suc (count-tab (suc i) n f)
 
--- the top class after a block is that of all changes up to its end
-top-stored : (g t : ℕ) (seen cs : List Change) → t ≡ topOf g seen → topAfter t (partWith (topOf g (seen ++ cs)) (listOf g cs)) ≡ topOf g (seen ++ cs)
-top-stored g t seen cs e = go (listOf g cs) refl
-  where
-    go : (l : List Entry) → listOf g cs ≡ l → topAfter t (partWith (topOf g (seen ++ cs)) l) ≡ topOf g (seen ++ cs)
-    go [] q = omega (arith, top-append g seen cs, top-none g cs q)
-    go (x ∷ l) q = refl
-
-tops-left : (n g : ℕ) (bs : List Chunk) (seen : List Change) (tops : List ℕ) → g < n → getD tops g 0 ≡ topOf g seen
-    → getD (topsLeft tops (imageOf n seen bs)) g 0 ≡ topOf g (seen ++ seenOf bs)
-unfolding topsLeft imageOf seenOf
-tops-left n g [] seen tops h e = e ∙ ap (topOf g) (sym (append-nil seen))
-tops-left n g (b ∷ bs) seen tops h e =
-    let s : Block (List Entry) = storedOf n (seen ++ b .changes) b in
-    let c : g < length (s .parts) = omega (arith, count-tab 0 n (λ (g : ℕ). partWith (topOf g (seen ++ b .changes)) (listOf g (b .changes)))) in
-    let q : getD (topsAfter tops (s .parts)) g 0 ≡ topOf g (seen ++ b .changes) =
-    tops-at g tops (s .parts) c ∙ ap (topAfter (getD tops g 0)) (stored-part n g (seen ++ b .changes) b h) ∙ top-stored g (getD tops g 0) seen (b .changes) e in
-    tops-left n g bs (seen ++ b .changes) (topsAfter tops (s .parts)) h q ∙ ap (topOf g) (append-assoc seen (b .changes) (seenOf bs))
-
 -- ---- times
 
-begins-more : (end : Option ℕ) (ts us : List ℕ) → 0 < length ts → Begins end ts → Begins end (ts ++ us)
-begins-more none ts us h b = omega (arith, length-append ts us)
-begins-more (some t) [] us h b = absurd (omega arith)
-begins-more (some t) (x ∷ ts) us h b = (omega (arith, b .0, length-append (x ∷ ts) us), b .1)
+starts-more : (end : Option ℕ) (ts us : List ℕ) → 0 < length ts → Starts end ts → Starts end (ts ++ us)
+starts-more none ts us h b = tt
+starts-more (some t) [] us h b = absurd (omega arith)
+starts-more (some t) (x ∷ ts) us h b = b
 
 below-more : (m : ℕ) (ts : List ℕ) (t : ℕ) → EachBelow m ts → t < m → EachBelow m (ts ++ t ∷ [])
 below-more m [] t b h = (h, tt)
@@ -105,24 +86,19 @@ unfolding lastIndex
 last-inside k n i top m [] f h e = h
 last-inside k n i top m (x ∷ l) f h e = last-inside k n (x .index) top m l (f .1) (omega (arith, f .0 .inside)) e
 
-first-inside : (end : Option ℕ) (ts : List ℕ) → 0 < length ts → Begins end ts → firstIndex end ≤ length ts - 1
-first-inside none ts h b = omega arith
-first-inside (some t) ts h b = omega (arith, b .0)
-
 -- ---- the invariant
 
 -- a signal's changes in the open block, after the changes seen in finished ones
-pub record SignalFits (k : SignalEncoding) (n i : ℕ) (seen cs : List Change) (g : ℕ) : Type 0 where
-  pub entries : EntriesFit k n i (topOf g (seen ++ cs)) (listOf g cs)
+pub record SignalFits (k : SignalEncoding) (n : ℕ) (seen cs : List Change) (g : ℕ) : Type 0 where
+  pub entries : EntriesFit k n 0 (topOf g (seen ++ cs)) (listOf g cs)
   pub most : topOf g (seen ++ cs) ≤ topLimit k
 
-part-fits : (k : SignalEncoding) (n i : ℕ) (seen cs : List Change) (g : ℕ) → SignalFits k n i seen cs g
-    → OptionFits k n i (topOf g seen) (partWith (topOf g (seen ++ cs)) (listOf g cs))
-part-fits k n i seen cs g f = go (listOf g cs) (f .entries)
+part-fits : (k : SignalEncoding) (n : ℕ) (seen cs : List Change) (g : ℕ) → SignalFits k n seen cs g → OptionFits k n (partWith (topOf g (seen ++ cs)) (listOf g cs))
+part-fits k n seen cs g f = go (listOf g cs) (f .entries)
   where
-    go : (l : List Entry) → EntriesFit k n i (topOf g (seen ++ cs)) l → OptionFits k n i (topOf g seen) (partWith (topOf g (seen ++ cs)) l)
+    go : (l : List Entry) → EntriesFit k n 0 (topOf g (seen ++ cs)) l → OptionFits k n (partWith (topOf g (seen ++ cs)) l)
     go [] e = tt
-    go (x ∷ l) e = record { any = omega arith; never-falls = omega (arith, top-append g seen cs); most = f .most; entries = e }
+    go (x ∷ l) e = record { any = omega arith; most = f .most; entries = e }
 
 module _ (limit : ℕ) (ks : List SignalEncoding) where
   abbrev pub Im : List Chunk → List (Block (List Entry))
@@ -132,55 +108,53 @@ module _ (limit : ℕ) (ks : List SignalEncoding) where
   End bs = endAfter none (Im bs)
 
   pub record Well (p : Model) : Type 0 where
-    pub full : FullBlocks limit ks none [] (Im (p .blocks))
+    pub done : BlocksFit limit ks none (Im (p .blocks))
     pub room : length (p .now .times) ≤ limit
-    pub begins : 0 < length (p .now .times) → Begins (End (p .blocks)) (p .now .times)
+    pub starts : 0 < length (p .now .times) → Starts (End (p .blocks)) (p .now .times)
     pub rising : Rising (p .now .times)
     pub small : EachBelow (2 ^ 64) (p .now .times)
-    pub signals : (g : ℕ) → g < length ks → SignalFits (getD ks g Absent) (length (p .now .times)) (firstIndex (End (p .blocks))) (seenOf (p .blocks)) (p .now .changes) g
+    pub signals : (g : ℕ) → g < length ks → SignalFits (getD ks g Absent) (length (p .now .times)) (seenOf (p .blocks)) (p .now .changes) g
 
   abbrev First : Model → Type 0
   First p = length (p .now .times) ≡ 0 → (p .blocks ≡ []) × (p .now .changes ≡ [])
 
   -- the open block may be finished
-  now-fits : (p : Model) (follow : ℕ) → Well p → 0 < length (p .now .times) → Filled limit (length (p .now .times)) follow
-      → BlockFits limit ks (End (p .blocks)) (topsLeft [] (Im (p .blocks))) (storedOf (length ks) (seenOf (p .blocks) ++ p .now .changes) (p .now)) follow
-  now-fits p follow w h f =
+  now-fits : (p : Model) → Well p → 0 < length (p .now .times) → BlockFits limit ks (storedOf (length ks) (seenOf (p .blocks) ++ p .now .changes) (p .now))
+  now-fits p w h =
       let seen : List Change = seenOf (p .blocks) in
       let cs : List Change = p .now .changes in
       let b : Block (List Entry) = storedOf (length ks) (seen ++ cs) (p .now) in
       record {
-        filled = f;
-        begins = w .begins h;
+        any = h;
+        few = w .room;
         rising = w .rising;
         small = w .small;
         parts =
-            each-parts (length (p .now .times)) (firstIndex (End (p .blocks))) ks (topsLeft [] (Im (p .blocks))) (b .parts)
+            each-parts (length (p .now .times)) ks (b .parts)
             (count-tab 0 (length ks) (λ (g : ℕ). partWith (topOf g (seen ++ cs)) (listOf g cs))) (λ g l. one g l);
       }
     where
       one : (g : ℕ) → g < length ks
-          → OptionFits (getD ks g Absent) (length (p .now .times)) (firstIndex (End (p .blocks))) (getD (topsLeft [] (Im (p .blocks))) g 0)
-          (getD (storedOf (length ks) (seenOf (p .blocks) ++ p .now .changes) (p .now) .parts) g none)
+          → OptionFits (getD ks g Absent) (length (p .now .times)) (getD (storedOf (length ks) (seenOf (p .blocks) ++ p .now .changes) (p .now) .parts) g none)
       one g l =
-          let k : SignalEncoding = getD ks g Absent in
           let n : ℕ = length (p .now .times) in
-          let i : ℕ = firstIndex (End (p .blocks)) in
           let seen : List Change = seenOf (p .blocks) in
           let cs : List Change = p .now .changes in
-          subst (λ (t : ℕ). OptionFits k n i t (getD (storedOf (length ks) (seen ++ cs) (p .now) .parts) g none)) (sym (tops-left (length ks) g (p .blocks) [] [] l (zero-top g)))
-          (subst (λ (q : Option (Part (List Entry))). OptionFits k n i (topOf g seen) q) (sym (stored-part (length ks) g (seen ++ cs) (p .now) l))
-          (part-fits k n i seen cs g (w .signals g l)))
-        where
-          zero-top : (g : ℕ) → getD {A = ℕ} [] g 0 ≡ topOf g []
-          zero-top g = unfold topOf in refl
+          subst (λ (q : Option (Part (List Entry))). OptionFits (getD ks g Absent) n q) (sym (stored-part (length ks) g (seen ++ cs) (p .now) l))
+          (part-fits (getD ks g Absent) n seen cs g (w .signals g l))
+
+  -- the finished blocks and the open one
+  cut-fits : (p : Model) → Well p → 0 < length (p .now .times) → BlocksFit limit ks none (Im (p .blocks ++ p .now ∷ []))
+  cut-fits p w h =
+      subst (BlocksFit limit ks none) (sym (image-snoc (length ks) (p .blocks) (p .now) []))
+      (blocks-join limit ks none (Im (p .blocks)) (storedOf (length ks) (seenOf (p .blocks) ++ p .now .changes) (p .now) ∷ []) (w .done) (w .starts h, (now-fits p w h, tt)))
 
   pub start-well : Well noModel
-  unfolding FullBlocks imageOf seenOf listOf topOf
+  unfolding imageOf seenOf listOf topOf
   start-well = record {
-    full = tt;
+    done = tt;
     room = omega arith;
-    begins = λ h. absurd (omega arith);
+    starts = λ h. absurd (omega arith);
     rising = tt;
     small = tt;
     signals = λ g h. record { entries = tt; most = omega arith };
@@ -195,9 +169,9 @@ module _ (limit : ℕ) (ks : List SignalEncoding) where
       let ts : List ℕ = p .now .times in
       let n : length (ts ++ t ∷ []) ≡ length ts + 1 = length-append ts (t ∷ []) in
       record {
-        full = w .full;
+        done = w .done;
         room = omega arith;
-        begins = λ h. by-first ts refl;
+        starts = λ h. by-first ts refl;
         rising = way-rising ts t e (w .rising);
         small = below-more (2 ^ 64) ts t (w .small) small;
         signals = λ g h.
@@ -205,18 +179,16 @@ module _ (limit : ℕ) (ks : List SignalEncoding) where
             let k : SignalEncoding = getD ks g Absent in
             let top : ℕ = topOf g (seenOf (p .blocks) ++ p .now .changes) in
             record {
-              entries = entries-wider k (length ts) (length (ts ++ t ∷ [])) (firstIndex (End (p .blocks))) top top (listOf g (p .now .changes)) (omega arith) (omega arith) (f .entries);
+              entries = entries-wider k (length ts) (length (ts ++ t ∷ [])) 0 top top (listOf g (p .now .changes)) (omega arith) (omega arith) (f .entries);
               most = f .most;
             };
       }
     where
-      by-first : (l : List ℕ) → p .now .times ≡ l → Begins (End (p .blocks)) (p .now .times ++ t ∷ [])
-      by-first [] q =
-          let z = first (ap length q) in
-          subst (λ (bs : List Chunk). Begins (End bs) (p .now .times ++ t ∷ [])) (sym (z .0)) (omega (arith, length-append (p .now .times) (t ∷ [])))
+      by-first : (l : List ℕ) → p .now .times ≡ l → Starts (End (p .blocks)) (p .now .times ++ t ∷ [])
+      by-first [] q = subst (λ (bs : List Chunk). Starts (End bs) (p .now .times ++ t ∷ [])) (sym (first (ap length q) .0)) tt
       by-first (x ∷ l) q =
           let h : 0 < length (p .now .times) = rw q (omega arith) in
-          begins-more (End (p .blocks)) (p .now .times) (t ∷ []) h (w .begins h)
+          starts-more (End (p .blocks)) (p .now .times) (t ∷ []) h (w .starts h)
 
   -- after a cut
   cut-well : (p : Model) (t : ℕ) → length (p .now .times) ≡ limit → 2 ≤ limit → t < 2 ^ 64 → wayOf (p .now .times) t ≡ above → Well p → Well (timed (cut p) t)
@@ -228,9 +200,9 @@ module _ (limit : ℕ) (ks : List SignalEncoding) where
       let im : Im (p .blocks ++ p .now ∷ []) ≡ Im (p .blocks) ++ b ∷ [] = image-snoc (length ks) (p .blocks) (p .now) [] in
       let end : End (p .blocks ++ p .now ∷ []) ≡ some last = ap (endAfter none) im ∙ end-snoc none (Im (p .blocks)) b in
       record {
-        full = subst (FullBlocks limit ks none []) (sym im) (full-more limit ks none [] (Im (p .blocks)) b (w .full) (now-fits p 1 w h e));
+        done = cut-fits p w h;
         room = omega arith;
-        begins = λ z. subst (λ (o : Option ℕ). Begins o (last ∷ t ∷ [])) (sym end) (omega arith, refl);
+        starts = λ z. subst (λ (o : Option ℕ). Starts o (last ∷ t ∷ [])) (sym end) (omega arith);
         rising = (way-above (p .now .times) t h a, tt);
         small = (last-below (2 ^ 64) 0 (p .now .times) (omega arith) (w .small), (small, tt));
         signals = λ g l.
@@ -240,7 +212,7 @@ module _ (limit : ℕ) (ks : List SignalEncoding) where
       }
 
   skip-well : (p : Model) (s : Bool) (n : ℕ) (c : Bool) → Well p → Well (model (p .blocks) (p .now) s n c)
-  skip-well p s n c w = record { full = w .full; room = w .room; begins = w .begins; rising = w .rising; small = w .small; signals = w .signals }
+  skip-well p s n c w = record { done = w .done; room = w .room; starts = w .starts; rising = w .rising; small = w .small; signals = w .signals }
 
   time-well : (p : Model) (t : ℕ) (way : Way) → 2 ≤ limit → t < 2 ^ 64 → wayOf (p .now .times) t ≡ way → First p → Well p → Well (modelTime limit p t way)
   unfolding modelTime
@@ -259,11 +231,11 @@ module _ (limit : ℕ) (ks : List SignalEncoding) where
 
   -- ---- a change
 
-  added : (k : SignalEncoding) (n i : ℕ) (seen cs : List Change) (g g' : ℕ) (a : Content) (c m : ℕ) → SignalFits k n i seen cs g'
-      → (g ≡ g' → Accepted k a c) → i ≤ m → n ≡ suc m
-      → SignalFits k n i seen (cs ++ record { signal = g; place = m; content = a; class = c } ∷ []) g'
+  added : (k : SignalEncoding) (n : ℕ) (seen cs : List Change) (g g' : ℕ) (a : Content) (c m : ℕ) → SignalFits k n seen cs g'
+      → (g ≡ g' → Accepted k a c) → n ≡ suc m
+      → SignalFits k n seen (cs ++ record { signal = g; place = m; content = a; class = c } ∷ []) g'
   unfolding listOf topOf
-  added k n i seen cs g g' a c m f acc later e = go (eqb g g') refl
+  added k n seen cs g g' a c m f acc e = go (eqb g g') refl
     where
       x : Change
       x = record { signal = g; place = m; content = a; class = c }
@@ -271,21 +243,21 @@ module _ (limit : ℕ) (ks : List SignalEncoding) where
       old : ℕ
       old = topOf g' (seen ++ cs)
 
-      go : (b : Bool) → eqb g g' ≡ b → SignalFits k n i seen (cs ++ x ∷ []) g'
+      go : (b : Bool) → eqb g g' ≡ b → SignalFits k n seen (cs ++ x ∷ []) g'
       go true q =
           let y = acc (eqb-true g g' q) in
           let top : topOf g' (seen ++ (cs ++ x ∷ [])) ≡ max old c =
           ap (topOf g') (sym (append-assoc seen cs (x ∷ []))) ∙ top-append g' (seen ++ cs) (x ∷ []) ∙ rw q (omega arith) in
           let list : listOf g' (cs ++ x ∷ []) ≡ listOf g' cs ++ entry m a ∷ [] = list-append g' cs (x ∷ []) ∙ rw q refl in
-          let wide = entries-wider k n n i old (max old c) (listOf g' cs) (omega arith) (omega arith) (f .entries) in
-          let new : EntryFits k n (lastIndex i (listOf g' cs)) (max old c) (entry m a) = record {
-            later = last-inside k n i old m (listOf g' cs) (f .entries) later (omega arith);
+          let wide = entries-wider k n n 0 old (max old c) (listOf g' cs) (omega arith) (omega arith) (f .entries) in
+          let new : EntryFits k n (lastIndex 0 (listOf g' cs)) (max old c) (entry m a) = record {
+            later = last-inside k n 0 old m (listOf g' cs) (f .entries) (omega arith) (omega arith);
             inside = omega arith;
             content = y .fits;
             class = omega (arith, y .class);
           } in
           record {
-            entries = rw (top, list) (entries-more k n i (max old c) (listOf g' cs) (entry m a) wide new);
+            entries = rw (top, list) (entries-more k n 0 (max old c) (listOf g' cs) (entry m a) wide new);
             most = rw top (omega (arith, y .limit, f .most));
           }
       go false q =
@@ -300,29 +272,25 @@ module _ (limit : ℕ) (ks : List SignalEncoding) where
   change-well p g true v d fit e h w = skip-well p true (counted (p .count)) (p .closed) w
   change-well p g false v (refuse n) fit e h w = w
   change-well p g false v (accept a c) fit e h w = record {
-    full = w .full;
+    done = w .done;
     room = w .room;
-    begins = w .begins;
+    starts = w .starts;
     rising = w .rising;
     small = w .small;
-    signals = λ g' l. added (getD ks g' Absent) (length (p .now .times)) (firstIndex (End (p .blocks))) (seenOf (p .blocks)) (p .now .changes) g g' a c (length (p .now .times) - 1)
+    signals = λ g' l. added (getD ks g' Absent) (length (p .now .times)) (seenOf (p .blocks)) (p .now .changes) g g' a c (length (p .now .times) - 1)
         (w .signals g' l) (λ q. accepted (getD ks g' Absent) v a c fit (subst (λ (i : ℕ). decode (getD ks i Absent) v ≡ accept a c) q e))
-        (first-inside (End (p .blocks)) (p .now .times) h (w .begins h)) (omega arith);
+        (omega arith);
   }
 
   -- ---- the image that a finish leaves
 
-  pub closed-fits : (p : Model) → First p → Well p → BlocksFit limit ks none [] (Im (close (pick (noTime (p .now .times)) p (cut p)) .blocks))
+  pub closed-fits : (p : Model) → First p → Well p → BlocksFit limit ks none (Im (close (pick (noTime (p .now .times)) p (cut p)) .blocks))
   unfolding cut imageOf
   closed-fits p first w = go (p .now .times) refl
     where
-      go : (l : List ℕ) → p .now .times ≡ l → BlocksFit limit ks none [] (Im (close (pick (noTime l) p (cut p)) .blocks))
-      go [] e = subst (λ (bs : List Chunk). BlocksFit limit ks none [] (Im bs)) (sym (first (ap length e) .0)) tt
-      go (x ∷ l) e =
-          let h : 0 < length (p .now .times) = rw e (omega arith) in
-          let b : Block (List Entry) = storedOf (length ks) (seenOf (p .blocks) ++ p .now .changes) (p .now) in
-          subst (BlocksFit limit ks none []) (sym (image-snoc (length ks) (p .blocks) (p .now) []))
-          (full-last limit ks none [] (Im (p .blocks)) b (w .full) (now-fits p 0 w h (w .room)))
+      go : (l : List ℕ) → p .now .times ≡ l → BlocksFit limit ks none (Im (close (pick (noTime l) p (cut p)) .blocks))
+      go [] e = w .done
+      go (x ∷ l) e = cut-fits p w (rw e (omega arith))
 
 -- ---- one call
 
@@ -334,7 +302,7 @@ value-given (real b) f = f
 -- while open, well; once closed, blocks that fit
 pub record Good (limit : ℕ) (ks : List SignalEncoding) (p : Model) : Type 0 where
   pub well : p .closed ≡ false → Well limit ks p
-  pub shut : p .closed ≡ true → BlocksFit limit ks none [] (imageOf (length ks) [] (p .blocks))
+  pub shut : p .closed ≡ true → BlocksFit limit ks none (imageOf (length ks) [] (p .blocks))
 
 good-open : (limit : ℕ) (ks : List SignalEncoding) (p : Model) → p .closed ≡ false → Well limit ks p → Good limit ks p
 good-open limit ks p e w = record { well = λ q. w; shut = λ q. let z : _≡_ {A = ℕ} 0 1 = cc in absurd (omega arith) }

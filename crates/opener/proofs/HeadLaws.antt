@@ -154,17 +154,17 @@ fits-is : (h : Head) → isYes (headFits? h) ≡ leb 2 (h .limit) && (leb (h .li
 unfolding headFits?
 fits-is h = simp (yes-map, yes-both, yes-le)
 
-pub walk-is : (b : List ℕ) → Bytes b → isSome (walk b) ≡ isHead b && blocksFill (numberIn b 4) (kindsAt (numberIn b 0) b 16) (numberIn b 8) none [] b (16 + 4 * numberIn b 0)
+pub walk-is : (b : List ℕ) → Bytes b → isSome (walk b) ≡ isHead b && blocksFill (numberIn b 4) (kindsAt (numberIn b 0) b 16) (numberIn b 8) none b (16 + 4 * numberIn b 0)
 unfolding walk walkForm isHead blocksFill numbersFit
 walk-is b y = ap (λ (g : Got Head). isSome (ended (andThen (andThen g (λ h r. gotIf (ifYes (headFits? h) h) r)) Rest))) (head-get b y)
     ∙ by (leb 16 (length b)) (leb (16 + 4 * numberIn b 0) (length b)) refl (knownAt (numberIn b 0) b 16)
   where
     Rest : Head → List ℕ → Got Image
-    Rest h r = andThen (andThen (walkBlocks (h .limit) (h .kinds) (h .number) none [] .get r) (λ x q. pick (eqb (headSize (length (h .kinds)) + length r) (h .total + length q)) (got x q) bad))
+    Rest h r = andThen (andThen (walkBlocks (h .limit) (h .kinds) (h .number) none .get r) (λ x q. pick (eqb (headSize (length (h .kinds)) + length r) (h .total + length q)) (got x q) bad))
         (λ bs q. gotIf (some (image (h .limit) (h .kinds) bs)) q)
 
     W : Bool
-    W = atEnd (walkBlocks (numberIn b 4) (kindsAt (numberIn b 0) b 16) (numberIn b 8) none [] .get (drop (16 + 4 * numberIn b 0) b))
+    W = atEnd (walkBlocks (numberIn b 4) (kindsAt (numberIn b 0) b 16) (numberIn b 8) none .get (drop (16 + 4 * numberIn b 0) b))
 
     by : (t u : Bool) → leb (16 + 4 * numberIn b 0) (length b) ≡ u → (k : Bool)
         → isSome (ended (andThen (andThen (pick t (pick u (pick k (got (headIn b) (drop (16 + 4 * numberIn b 0) b)) bad) bad) bad) (λ h r. gotIf (ifYes (headFits? h) h) r)) Rest))
@@ -178,5 +178,5 @@ walk-is b y = ap (λ (g : Got Head). isSome (ended (andThen (andThen g (λ h r. 
         by-fits (headFits? (headIn b)) (headIn b) (drop (16 + 4 * numberIn b 0) b) Rest
         ∙ ap₂ _&&_ (fits-is (headIn b) ∙ ap (λ (S : ℕ). leb 2 (numberIn b 4) && (leb (numberIn b 4) 65535 && (leb S 65536 && leb (numberIn b 12) imageLimit))) c)
         (filled (numberIn b 4) (kindsAt (numberIn b 0) b 16) (headSize (length (kindsAt (numberIn b 0) b 16))) (numberIn b 12) (length b) (drop (16 + 4 * numberIn b 0) b)
-        (omega (arith, length-drop (16 + 4 * numberIn b 0) b)) (walkBlocks (numberIn b 4) (kindsAt (numberIn b 0) b 16) (numberIn b 8) none [] .get (drop (16 + 4 * numberIn b 0) b)))
+        (omega (arith, length-drop (16 + 4 * numberIn b 0) b)) (walkBlocks (numberIn b 4) (kindsAt (numberIn b 0) b 16) (numberIn b 8) none .get (drop (16 + 4 * numberIn b 0) b)))
         ∙ in-order (leb 2 (numberIn b 4)) (leb (numberIn b 4) 65535) (leb (numberIn b 0) 65536) (leb (numberIn b 12) imageLimit) (eqb (numberIn b 12) (length b)) W

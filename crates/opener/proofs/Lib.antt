@@ -1,4 +1,3 @@
-pub mod ClearLaws
 pub mod KindLaws
 pub mod HeadLaws
 pub mod BlocksLaws

@@ -3,7 +3,7 @@
 use Prim.Native.Nat.{ℕ, _+_, _*_, _≤_, _<_}
 use mathlib.Core.Path.{_≡_, refl, sym, ap, ap₂, _∙_}
 use mathlib.Core.Bool.{Bool, true, false, _&&_}
-use mathlib.Core.List.{List, []}
+use mathlib.Core.List.{List}
 use mathlib.Core.Option.{none}
 use borrow.Author.Tests.{le-leb, lt-leb, leb-true}
 use lib.Dec.{leb, eqb}
@@ -91,15 +91,15 @@ module _ (b : List ℕ) where
 -- ---- all
 
 module _ (b : List ℕ) (y : Bytes b) (t : Bool) (e : t ≡ isHead b) where
-  open-is : openOf b ≡ isHead b && blocksFill (numberIn b 4) (kindsAt (numberIn b 0) b 16) (numberIn b 8) none [] b (16 + 4 * numberIn b 0)
+  open-is : openOf b ≡ isHead b && blocksFill (numberIn b 4) (kindsAt (numberIn b 0) b 16) (numberIn b 8) none b (16 + 4 * numberIn b 0)
   open-is = ap isSome (sym (walk-parse b y)) ∙ walk-is b y
 
   pub open-head : t ≡ false → false ≡ openOf b
-  open-head f = sym (open-is ∙ ap (λ (t : Bool). t && blocksFill (numberIn b 4) (kindsAt (numberIn b 0) b 16) (numberIn b 8) none [] b (16 + 4 * numberIn b 0)) (sym e ∙ f))
+  open-head f = sym (open-is ∙ ap (λ (t : Bool). t && blocksFill (numberIn b 4) (kindsAt (numberIn b 0) b 16) (numberIn b 8) none b (16 + 4 * numberIn b 0)) (sym e ∙ f))
 
   pub open-blocks : (S limit n : ℕ) (u : Bool) → t ≡ true → S ≡ numberIn b 0 → limit ≡ numberIn b 4 → n ≡ numberIn b 8
-      → u ≡ blocksFill limit (kindsAt S b 16) n none [] b (16 + 4 * S) → u ≡ openOf b
+      → u ≡ blocksFill limit (kindsAt S b 16) n none b (16 + 4 * S) → u ≡ openOf b
   open-blocks S limit n u f p q r g =
-      g ∙ ap₂ (λ (S limit : ℕ). blocksFill limit (kindsAt S b 16) n none [] b (16 + 4 * S)) p q
-      ∙ ap (λ (n : ℕ). blocksFill (numberIn b 4) (kindsAt (numberIn b 0) b 16) n none [] b (16 + 4 * numberIn b 0)) r
-      ∙ sym (open-is ∙ ap (λ (t : Bool). t && blocksFill (numberIn b 4) (kindsAt (numberIn b 0) b 16) (numberIn b 8) none [] b (16 + 4 * numberIn b 0)) (sym e ∙ f))
+      g ∙ ap₂ (λ (S limit : ℕ). blocksFill limit (kindsAt S b 16) n none b (16 + 4 * S)) p q
+      ∙ ap (λ (n : ℕ). blocksFill (numberIn b 4) (kindsAt (numberIn b 0) b 16) n none b (16 + 4 * numberIn b 0)) r
+      ∙ sym (open-is ∙ ap (λ (t : Bool). t && blocksFill (numberIn b 4) (kindsAt (numberIn b 0) b 16) (numberIn b 8) none b (16 + 4 * numberIn b 0)) (sym e ∙ f))

@@ -38,5 +38,5 @@ atEnd bad = false
 atEnd (got x []) = true
 atEnd (got x (c ∷ r)) = false
 
-unfoldable pub blocksFill : (limit : ℕ) → List SignalEncoding → (number : ℕ) → (end : Option ℕ) → (tops : List ℕ) → List ℕ → (at : ℕ) → Bool
-blocksFill limit ks n end tops s at = atEnd (walkBlocks limit ks n end tops .get (drop at s))
+unfoldable pub blocksFill : (limit : ℕ) → List SignalEncoding → (number : ℕ) → (end : Option ℕ) → List ℕ → (at : ℕ) → Bool
+blocksFill limit ks n end s at = atEnd (walkBlocks limit ks n end .get (drop at s))

@@ -5,15 +5,13 @@
 // proofs/HeadLaws.antt and proofs/OpenLaws.antt.
 use blocks::NextBlock;
 use blocks::block_at;
-use blocks::store_block_tops;
 use numbers::little_endian::get_u32;
 use storage::kind_from;
 use storage::known_kind;
 ghost use mathlib.Core.Path.{_≡_};
-ghost use mathlib.Core.List.{[]};
 ghost use mathlib.Core.Option.{none};
-ghost use Prim.Native.Nat.{ℕ, _+_, _*_, _≤_, _<_};
-ghost use lib.ListN.{length, getD};
+ghost use Prim.Native.Nat.{_+_, _*_, _≤_, _<_};
+ghost use lib.ListN.{length};
 ghost use Rattle.loaded.specs.Opener.{openOf};
 ghost use Rattle.parts.specs.Parts.{kindsAt};
 ghost use Rattle.opener.specs.Opening.{numbersFit, knownAt, isHead, blocksFill};
@@ -71,21 +69,10 @@ fn is_head(image: &[u8]) -> bool
     kinds_known(image, signals)
 }
 
-// At the start no signal has a top class above 0. A loop of ours clears the array, so that the proof need not know what a new one holds.
-fn clear(tops: &mut [u8])
-    ensures { λ r. ⌜ (length (now (tops .exit)) ≡ length (now (tops .entry))) × ((i : ℕ) → getD (now (tops .exit)) i 0 ≡ 0) ⌝ }
-{
-    let mut i = 0;
-    while i < tops.len() {
-        tops[i] = 0;
-        i += 1;
-    }
-}
-
 // Whether so many blocks follow the head and fill the image.
-fn blocks_fill(image: &[u8], signals: usize, limit: u32, number: u32, tops: &mut [u8]) -> bool
-    requires { ⌜ (16 + 4 * signals ≤ length (now image)) × (signals ≤ 65536) × (limit ≤ 65535) × (signals ≤ length (now tops)) × ((i : ℕ) → getD (now tops) i 0 ≡ 0) ⌝ }
-    ensures { λ r. ⌜ r ≡ blocksFill limit (kindsAt signals (now (image .entry)) 16) number none [] (now (image .entry)) (16 + 4 * signals) ⌝ }
+fn blocks_fill(image: &[u8], signals: usize, limit: u32, number: u32) -> bool
+    requires { ⌜ (16 + 4 * signals ≤ length (now image)) × (signals ≤ 65536) × (limit ≤ 65535) ⌝ }
+    ensures { λ r. ⌜ r ≡ blocksFill limit (kindsAt signals (now (image .entry)) 16) number none (now (image .entry)) (16 + 4 * signals) ⌝ }
 {
     let mut at = 16 + 4 * signals;
     let mut left = number;
@@ -93,9 +80,8 @@ fn blocks_fill(image: &[u8], signals: usize, limit: u32, number: u32, tops: &mut
     let mut end: u64 = 0;
     while 0 < left {
         left -= 1;
-        match block_at(image, at, signals, limit, left, later, end, tops) {
+        match block_at(image, at, signals, limit, later, end) {
             NextBlock::At(next, last) => {
-                store_block_tops(image, at, signals, tops);
                 at = next;
                 end = last;
                 later = true;
@@ -108,20 +94,17 @@ fn blocks_fill(image: &[u8], signals: usize, limit: u32, number: u32, tops: &mut
     at == image.len()
 }
 
-// Whether bytes are an image: some list of calls, from an accepted start to an accepted finish, leaves them.
+// Whether bytes are an image: left by a list of calls, from an accepted start to an accepted finish, or joined from images.
 pub fn open(image: &[u8]) -> bool
     ensures { λ r. ⌜ r ≡ openOf (now (image .entry)) ⌝ }
 {
     if !is_head(image) {
         return false;
     }
-    let mut tops: [u8; 65536] = [0; 65536];
-    clear(&mut tops);
     blocks_fill(
         image,
         get_u32(image, 0) as usize,
         get_u32(image, 4),
         get_u32(image, 8),
-        &mut tops,
     )
 }

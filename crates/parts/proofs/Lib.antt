@@ -1,4 +1,3 @@
 pub mod PartLaws
 pub mod PartsLaws
 pub mod SignalLaws
-pub mod TopsLaws

@@ -19,10 +19,10 @@ use Rattle.stream.specs.Entries.{Entry}
 use Rattle.image.specs.Block.{Part, part}
 use Rattle.form.specs.Form.{andThen, gotIf, ifYes, sized}
 use Rattle.form.specs.Decide.{le?}
-use Rattle.codec.specs.Walk.{walkStream, topFits?, walkPart}
+use Rattle.codec.specs.Walk.{walkStream, walkPart}
 use Rattle.reading.specs.Decided.{isYes}
 use Rattle.reading.specs.Stream.{isStream}
-use Rattle.reading.proofs.DecidedLaws.{yes-le, yes-both}
+use Rattle.reading.proofs.DecidedLaws.{yes-le}
 use Rattle.parts.specs.Parts.{partIn}
 
 -- ---- the part that a form reads
@@ -48,27 +48,15 @@ by-room : (t : Bool) (o : Option (List Entry)) (x : ℕ) (q : List ℕ) → t �
 by-room true o x q e = by-stream o x q
 by-room false o x q e = let z : _≡_ {A = ℕ} 0 1 = cc in absurd (omega arith)
 
-pub part-get : (n i : ℕ) (k : SignalEncoding × ℕ) (m x : ℕ) (t : List ℕ) → m ≤ length t
-    → walkPart n i k (some m) .get (x ∷ t) ≡ gotPart (partIn (k .0) (k .1) n i (x ∷ take m t)) (drop m t)
+pub part-get : (n : ℕ) (k : SignalEncoding) (m x : ℕ) (t : List ℕ) → m ≤ length t → walkPart n k (some m) .get (x ∷ t) ≡ gotPart (partIn k n (x ∷ take m t)) (drop m t)
 unfolding partIn
-part-get n i k m x t h =
-    let f : ℕ → List ℕ → Got (Option (Part (List Entry))) = λ u q. andThen (sized m (walkStream (k .0) n i u) .get q) (λ l r. gotIf (some (some (part u l))) r) in
-    let o : Option (Part (List Entry)) = bind (walkStream (k .0) n i x .read (take m t)) (λ l. some (part x l)) in
-    by-class (topFits? (k .0) (k .1) x) x t f
-    ∙ ap₂ (λ (t : Bool) (g : Got (Option (Part (List Entry)))). pick t g bad) (yes-both (le? (k .1) x) (le? x (topLimit (k .0))) ∙ ap₂ _&&_ (yes-le (k .1) x) (yes-le x (topLimit (k .0))))
-    (by-room (leb m (length t)) (walkStream (k .0) n i x .read (take m t)) x (drop m t) (le-leb m (length t) h))
-    ∙ sym (got-pick (leb (k .1) x && leb x (topLimit (k .0))) o (drop m t))
-
--- a part's top class is its first byte
-pub part-top : (k : SignalEncoding) (before n i : ℕ) (l : List ℕ) (p : Part (List Entry)) → partIn k before n i l ≡ some p → p .top ≡ getD l 0 0
-unfolding partIn
-part-top k before n i [] p e = let z : _≡_ {A = ℕ} 0 1 = cc in absurd (omega arith)
-part-top k before n i (x ∷ r) p e = by (leb before x && leb x (topLimit k)) (walkStream k n i x .read r) e
-  where
-    by : (t : Bool) (o : Option (List Entry)) → pick t (bind o (λ l. some (part x l))) none ≡ some p → p .top ≡ x
-    by true none e = let z : _≡_ {A = ℕ} 0 1 = cc in absurd (omega arith)
-    by true (some l) e = let q : part x l ≡ p = cc in ap (λ (p : Part (List Entry)). p .top) (sym q)
-    by false o e = let z : _≡_ {A = ℕ} 0 1 = cc in absurd (omega arith)
+part-get n k m x t h =
+    let f : ℕ → List ℕ → Got (Option (Part (List Entry))) = λ u q. andThen (sized m (walkStream k n u) .get q) (λ l r. gotIf (some (some (part u l))) r) in
+    let o : Option (Part (List Entry)) = bind (walkStream k n x .read (take m t)) (λ l. some (part x l)) in
+    by-class (le? x (topLimit k)) x t f
+    ∙ ap₂ (λ (t : Bool) (g : Got (Option (Part (List Entry)))). pick t g bad) (yes-le x (topLimit k))
+    (by-room (leb m (length t)) (walkStream k n x .read (take m t)) x (drop m t) (le-leb m (length t) h))
+    ∙ sym (got-pick (leb x (topLimit k)) o (drop m t))
 
 -- ---- the code's tests
 
@@ -76,34 +64,29 @@ some-part : (o : Option (List Entry)) (x : ℕ) → isSome (bind o (λ l. some (
 some-part none x = refl
 some-part (some l) x = refl
 
-some-pick : (t u : Bool) (o : Option (Part (List Entry))) → isSome (pick (t && u) o none) ≡ t && (u && isSome o)
-some-pick true true o = refl
-some-pick true false o = refl
-some-pick false u o = refl
+some-pick : (t : Bool) (o : Option (Part (List Entry))) → isSome (pick t o none) ≡ t && isSome o
+some-pick true o = refl
+some-pick false o = refl
 
-module _ (k : SignalEncoding) (before n i : ℕ) where
-  part-is : (x : ℕ) (r : List ℕ) → isSome (partIn k before n i (x ∷ r)) ≡ leb before x && (leb x (topLimit k) && isStream k n i x r)
+module _ (k : SignalEncoding) (n : ℕ) where
+  part-is : (x : ℕ) (r : List ℕ) → isSome (partIn k n (x ∷ r)) ≡ leb x (topLimit k) && isStream k n x r
   unfolding partIn isStream
   part-is x r =
-      some-pick (leb before x) (leb x (topLimit k)) (bind (walkStream k n i x .read r) (λ l. some (part x l)))
-      ∙ ap (λ (b : Bool). leb before x && (leb x (topLimit k) && b)) (some-part (walkStream k n i x .read r) x)
+      some-pick (leb x (topLimit k)) (bind (walkStream k n x .read r) (λ l. some (part x l)))
+      ∙ ap (λ (b : Bool). leb x (topLimit k) && b) (some-part (walkStream k n x .read r) x)
 
-  by-first : (s : List ℕ) (x : ℕ) → 0 < length s → x ≡ getD s 0 0 → isSome (partIn k before n i s) ≡ leb before x && (leb x (topLimit k) && isStream k n i x (drop 1 s))
+  by-first : (s : List ℕ) (x : ℕ) → 0 < length s → x ≡ getD s 0 0 → isSome (partIn k n s) ≡ leb x (topLimit k) && isStream k n x (drop 1 s)
   by-first [] x h e = absurd (omega arith)
-  by-first (y ∷ s) x h e = part-is y s ∙ ap (λ (x : ℕ). leb before x && (leb x (topLimit k) && isStream k n i x s)) (sym e)
+  by-first (y ∷ s) x h e = part-is y s ∙ ap (λ (x : ℕ). leb x (topLimit k) && isStream k n x s) (sym e)
 
-  pub part-low : (s : List ℕ) (x : ℕ) → 0 < length s → x ≡ getD s 0 0 → x < before → false ≡ isSome (partIn k before n i s)
-  part-low s x h e l = sym (by-first s x h e ∙ ap (λ (t : Bool). t && (leb x (topLimit k) && isStream k n i x (drop 1 s))) (lt-leb before x l))
+  pub part-high : (s : List ℕ) (x y : ℕ) → 0 < length s → x ≡ getD s 0 0 → y ≡ topLimit k → y < x → false ≡ isSome (partIn k n s)
+  part-high s x y h e f l = sym (by-first s x h e ∙ ap (λ (u : Bool). u && isStream k n x (drop 1 s)) (ap (leb x) (sym f) ∙ lt-leb x y l))
 
-  pub part-high : (s : List ℕ) (x y : ℕ) → 0 < length s → x ≡ getD s 0 0 → y ≡ topLimit k → before ≤ x → y < x → false ≡ isSome (partIn k before n i s)
-  part-high s x y h e f a l =
-      sym (by-first s x h e ∙ ap₂ (λ (t u : Bool). t && (u && isStream k n i x (drop 1 s))) (le-leb before x a) (ap (leb x) (sym f) ∙ lt-leb x y l))
-
-  pub part-all : (s : List ℕ) (x y : ℕ) (t : Bool) (j : ℕ) → 0 < length s → x ≡ getD s 0 0 → y ≡ topLimit k → before ≤ x → x ≤ y
-      → t ≡ isStream k n i x (take j (drop 1 s)) → j ≡ length s - 1 → t ≡ isSome (partIn k before n i s)
-  part-all s x y t j h e f a b q d =
-      q ∙ ap (isStream k n i x) (ap (λ (j : ℕ). take j (drop 1 s)) (d ∙ sym (length-drop 1 s)) ∙ take-length (drop 1 s))
-      ∙ sym (by-first s x h e ∙ ap₂ (λ (t u : Bool). t && (u && isStream k n i x (drop 1 s))) (le-leb before x a) (ap (leb x) (sym f) ∙ le-leb x y b))
+  pub part-all : (s : List ℕ) (x y : ℕ) (t : Bool) (j : ℕ) → 0 < length s → x ≡ getD s 0 0 → y ≡ topLimit k → x ≤ y
+      → t ≡ isStream k n x (take j (drop 1 s)) → j ≡ length s - 1 → t ≡ isSome (partIn k n s)
+  part-all s x y t j h e f b q d =
+      q ∙ ap (isStream k n x) (ap (λ (j : ℕ). take j (drop 1 s)) (d ∙ sym (length-drop 1 s)) ∙ take-length (drop 1 s))
+      ∙ sym (by-first s x h e ∙ ap (λ (u : Bool). u && isStream k n x (drop 1 s)) (ap (leb x) (sym f) ∙ le-leb x y b))
 
 -- the largest top class by the kind
 module _ (k : SignalEncoding) where

@@ -13,7 +13,7 @@ ghost use lib.ListN.{length, drop};
 ghost use Rattle.lists.specs.Choice.{isSome};
 ghost use Rattle.signal.specs.Kind.{topLimit};
 ghost use Rattle.reading.specs.Decided.{uints};
-ghost use Rattle.parts.specs.Parts.{partIn, onePart, signals, areParts, topRead, storeFrom};
+ghost use Rattle.parts.specs.Parts.{partIn, onePart, kindsAt, areParts};
 
 // Where the parts of the signals read so far begin, or no parts.
 pub enum PartStart {
@@ -32,19 +32,16 @@ fn top_limit(kind: SignalEncoding) -> u8
     }
 }
 
-// Whether bytes are the part of a signal whose top class was `before`.
-fn is_part(s: &[u8], kind: SignalEncoding, before: u8, times: u32, least: u32) -> bool
+// Whether bytes are the part of a signal.
+fn is_part(s: &[u8], kind: SignalEncoding, times: u32) -> bool
     requires { ⌜ (0 < length (now s)) × (times ≤ 65535) ⌝ }
-    ensures { λ r. ⌜ r ≡ isSome (partIn kind before times least (now (s .entry))) ⌝ }
+    ensures { λ r. ⌜ r ≡ isSome (partIn kind times (now (s .entry))) ⌝ }
 {
     let top = s[0];
-    if top < before {
-        return false;
-    }
     if top_limit(kind) < top {
         return false;
     }
-    is_stream(&s[1..], kind, times, least, top)
+    is_stream(&s[1..], kind, times, top)
 }
 
 // A signal's part, in front of parts that begin at `from` in the data at `base`.
@@ -52,14 +49,12 @@ fn one_part(
     s: &[u8],
     base: usize,
     kind: SignalEncoding,
-    before: u8,
     offset: SignalDataOffset,
     from: usize,
     times: u32,
-    least: u32,
 ) -> PartStart
     requires { ⌜ (base + from ≤ length (now s)) × (times ≤ 65535) ⌝ }
-    ensures { λ r. ⌜ r ≡ onePart (drop base (now (s .entry))) times least kind before (offset .0) from ⌝ }
+    ensures { λ r. ⌜ r ≡ onePart (drop base (now (s .entry))) times kind (offset .0) from ⌝ }
 {
     let stored = offset.0 as usize;
     if stored == 0 {
@@ -69,13 +64,13 @@ fn one_part(
         return PartStart::Wrong;
     }
     let start = stored - 1;
-    if is_part(&s[base + start..base + from], kind, before, times, least) {
+    if is_part(&s[base + start..base + from], kind, times) {
         return PartStart::From(start);
     }
     PartStart::Wrong
 }
 
-// Whether the parts of a block are right: kinds at `kinds`, offsets at `offsets`, n bytes of data at `base`, top classes before in `tops`.
+// Whether the parts of a block are right: kinds at `kinds`, offsets at `offsets`, n bytes of data at `base`.
 pub fn are_parts(
     s: &[u8],
     kinds: usize,
@@ -83,21 +78,18 @@ pub fn are_parts(
     base: usize,
     n: usize,
     count: usize,
-    tops: &[u8],
     times: u32,
-    least: u32,
 ) -> bool
-    requires { ⌜ (kinds + 4 * count ≤ length (now s)) × (offsets + 4 * count ≤ length (now s)) × (base + n ≤ length (now s)) × (count ≤ length (now tops)) × (times ≤ 65535) ⌝ }
-    ensures { λ r. ⌜ r ≡ areParts (drop base (now (s .entry))) n times least (signals count (now (s .entry)) kinds (now (tops .entry)) 0) (uints 4 count (now (s .entry)) offsets) ⌝ }
+    requires { ⌜ (kinds + 4 * count ≤ length (now s)) × (offsets + 4 * count ≤ length (now s)) × (base + n ≤ length (now s)) × (times ≤ 65535) ⌝ }
+    ensures { λ r. ⌜ r ≡ areParts (drop base (now (s .entry))) n times (kindsAt count (now (s .entry)) kinds) (uints 4 count (now (s .entry)) offsets) ⌝ }
 {
     let mut from = n;
     let mut i = count;
     while 0 < i {
         i -= 1;
         let kind = kind_from(get_u32(s, kinds + 4 * i));
-        let before = tops[i];
         let offset = SignalDataOffset(get_u32(s, offsets + 4 * i));
-        match one_part(s, base, kind, before, offset, from, times, least) {
+        match one_part(s, base, kind, offset, from, times) {
             PartStart::From(start) => {
                 from = start;
             }
@@ -107,33 +99,4 @@ pub fn are_parts(
         }
     }
     from == 0
-}
-
-// The top class of a signal after a block: its class byte, or the one before.
-fn top_after(s: &[u8], base: usize, offset: SignalDataOffset, before: u8) -> u8
-    requires { ⌜ base ≤ length (now s) ⌝ }
-    ensures { λ r. ⌜ r ≡ topRead (drop base (now (s .entry))) before (offset .0) ⌝ }
-{
-    let stored = offset.0 as usize;
-    if stored == 0 {
-        return before;
-    }
-    // in no accepted block
-    if s.len() - base < stored {
-        return 0;
-    }
-    s[base + (stored - 1)]
-}
-
-// Stores the top classes that a block leaves.
-pub fn store_tops(s: &[u8], offsets: usize, base: usize, count: usize, tops: &mut [u8])
-    requires { ⌜ (offsets + 4 * count ≤ length (now s)) × (base ≤ length (now s)) × (count ≤ length (now tops)) ⌝ }
-    ensures { λ r. ⌜ now (tops .exit) ≡ storeFrom (drop base (now (s .entry))) (now (tops .entry)) 0 (uints 4 count (now (s .entry)) offsets) ⌝ }
-{
-    let mut i = 0;
-    while i < count {
-        let offset = SignalDataOffset(get_u32(s, offsets + 4 * i));
-        tops[i] = top_after(s, base, offset, tops[i]);
-        i += 1;
-    }
 }

@@ -21,7 +21,7 @@ use Rattle.recording.specs.Memory.{Memory, memory, after, Tests, first, refused
 use Rattle.recording.specs.Refusals.{unknownKind, startTests}
 use Rattle.recording.specs.Step.{fresh, startOf}
 use Rattle.recording.proofs.StartCases.{Startable, begunIn, start-fits}
-use Rattle.refusals.proofs.TestsLaws.{positive, none-of, guarded-none, guarded-first}
+use Rattle.recording.proofs.TestsLaws.{positive, none-of, guarded-none, guarded-first}
 use Rattle.head.specs.Kinds.{headNumbers, kindsPut, KindsFit}
 use Rattle.head.proofs.HeadLaws.{kinds-none, kinds-length, head-written}
 use Rattle.cut.specs.Turns.{firstBy}

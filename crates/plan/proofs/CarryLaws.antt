@@ -20,7 +20,7 @@ use Rattle.recording.specs.Calls.{Way, above, equal, below, wayOf, replyOf}
 use Rattle.recording.specs.Memory.{Memory, memory, After, after, recordOf, Tests, first, refused}
 use Rattle.recording.specs.Refusals.{stateTests}
 use Rattle.recording.specs.Step as step
-use Rattle.refusals.proofs.TestsLaws.{guarded-none, guarded-first}
+use Rattle.recording.proofs.TestsLaws.{guarded-none, guarded-first}
 use Rattle.refusals.proofs.StateLaws.{Sound, sound, state-positive}
 use Rattle.cut.specs.Cut.{sized, cutState, nextTimes, CutOpens}
 use Rattle.cut.specs.Turns.{firstBy, cutTurns, TurnsFit}

@@ -15,7 +15,7 @@ use Rattle.recording.specs.declared.Encoder.{Encoder}
 use Rattle.recording.specs.Calls.{Way, above, equal, below, wayOf}
 use Rattle.recording.specs.Memory.{Tests, first}
 use Rattle.recording.specs.Refusals.{stateTests}
-use Rattle.refusals.proofs.TestsLaws.{guarded-none, guarded-first}
+use Rattle.recording.proofs.TestsLaws.{guarded-none, guarded-first}
 use Rattle.refusals.proofs.StateLaws.{state-positive}
 use Rattle.cut.specs.declared.CutSize.{CutSize}
 use Rattle.cut.specs.Cut.{sized, cutState}

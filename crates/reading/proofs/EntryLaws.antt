@@ -55,62 +55,62 @@ yes-fits k c f = by (contentFits? k c)
     by (yes p) = refl
     by (no n) = absurd (n f)
 
-abbrev pub byTests : (least n top index class place : ℕ) → NextChange
-byTests least n top i c p = pick (leb least i) (pick (ltb i n) (pick (leb c top) (At i p) Wrong) Wrong) Wrong
+abbrev pub byTests : (n top index class place : ℕ) → NextChange
+byTests n top i c p = pick (ltb i n) (pick (leb c top) (At i p) Wrong) Wrong
 
-in-order : (a b c d : Bool) (x : NextChange) → c ≡ true → pick (a && (b && (c && d))) x Wrong ≡ pick a (pick b (pick d x Wrong) Wrong) Wrong
-in-order true true true true x e = refl
-in-order true true true false x e = refl
-in-order true false true d x e = refl
-in-order false b true d x e = refl
-in-order a b false d x e = let z : _≡_ {A = ℕ} 0 1 = cc in absurd (omega arith)
+in-order : (a b c d : Bool) (x : NextChange) → a ≡ true → c ≡ true → pick (a && (b && (c && d))) x Wrong ≡ pick b (pick d x Wrong) Wrong
+in-order true true true true x f e = refl
+in-order true true true false x f e = refl
+in-order true false true d x f e = refl
+in-order false b c d x f e = let z : _≡_ {A = ℕ} 0 1 = cc in absurd (omega arith)
+in-order true b false d x f e = let z : _≡_ {A = ℕ} 0 1 = cc in absurd (omega arith)
 
 yes-next : {P : Type 0} (d : Dec P) (e : Entry) (n : ℕ) (q : List ℕ) → nextOf n (gotIf (ifYes d e) q) ≡ pick (isYes d) (At (e .index) (n - length q)) Wrong
 yes-next (yes p) c n q = refl
 yes-next (no p) c n q = refl
 
-entry-next : (k : SignalEncoding) (n least top : ℕ) (e : Entry) (m : ℕ) (q : List ℕ) → ContentFits k (e .content)
-    → nextOf m (gotIf (ifYes (entryFits? k n least top e) e) q) ≡ byTests least n top (e .index) (valueClass (valueOf k (e .content))) (m - length q)
+entry-next : (k : SignalEncoding) (n least top : ℕ) (e : Entry) (m : ℕ) (q : List ℕ) → least ≤ e .index → ContentFits k (e .content)
+    → nextOf m (gotIf (ifYes (entryFits? k n least top e) e) q) ≡ byTests n top (e .index) (valueClass (valueOf k (e .content))) (m - length q)
 unfolding entryFits?
-entry-next k n least top e m q f =
+entry-next k n least top e m q g f =
     let c : ℕ = classOfAll (symbolsOf (e .content)) in
     let t : isYes (entryFits? k n least top e) ≡ leb least (e .index) && (ltb (e .index) n && (isYes (contentFits? k (e .content)) && leb c top))
     = simp (yes-map, yes-both, yes-le, yes-lt) in
     yes-next (entryFits? k n least top e) e m q
     ∙ ap (λ (t : Bool). pick t (At (e .index) (m - length q)) Wrong) t
-    ∙ in-order (leb least (e .index)) (ltb (e .index) n) (isYes (contentFits? k (e .content))) (leb c top) (At (e .index) (m - length q)) (yes-fits k (e .content) f)
-    ∙ ap (λ (c : ℕ). byTests least n top (e .index) c (m - length q)) (sym (class-value k (e .content) f))
+    ∙ in-order (leb least (e .index)) (ltb (e .index) n) (isYes (contentFits? k (e .content))) (leb c top) (At (e .index) (m - length q)) (le-leb least (e .index) g) (yes-fits k (e .content) f)
+    ∙ ap (λ (c : ℕ). byTests n top (e .index) c (m - length q)) (sym (class-value k (e .content) f))
 
 no-read : {B : Type 0} {d n : ℕ} {v : ChangeValue} → read.Bad ≡ read.Change d v n → B
 no-read e = let z : _≡_ {A = ℕ} 0 1 = cc in absurd (omega arith)
 
-module _ (k : SignalEncoding) (n top prev least : ℕ) (s : List ℕ) (at : ℕ) (y : Bytes s) where
-  pub entry-bad : (x : ReadChange) → x ≡ changeAt k s at → x ≡ read.Bad → Wrong ≡ entryAt k n top prev least s at
+module _ (k : SignalEncoding) (n top prev : ℕ) (s : List ℕ) (at : ℕ) (y : Bytes s) where
+  pub entry-bad : (x : ReadChange) → x ≡ changeAt k s at → x ≡ read.Bad → Wrong ≡ entryAt k n top prev s at
   unfolding entryAt
   entry-bad x e f = by (readChange k (drop at s)) (sym e ∙ f)
     where
       by : (g : Got Change) → readAs k (length s) g ≡ read.Bad
-          → Wrong ≡ nextOf (length s) (andThen (andThen g (λ x r. gotIf (some (entry (prev + x .d) (x .content))) r)) (λ e r. gotIf (ifYes (entryFits? k n least top e) e) r))
+          → Wrong ≡ nextOf (length s) (andThen (andThen g (λ x r. gotIf (some (entry (prev + x .d) (x .content))) r)) (λ e r. gotIf (ifYes (entryFits? k n prev top e) e) r))
       by bad q = refl
       by (got x r) q = no-read (sym q)
 
   pub entry-is : (x : ReadChange) (d : ℕ) (v : ChangeValue) (p : ℕ) → x ≡ changeAt k s at → x ≡ read.Change d v p
-      → entryAt k n top prev least s at ≡ byTests least n top (prev + d) (valueClass v) p
+      → entryAt k n top prev s at ≡ byTests n top (prev + d) (valueClass v) p
   unfolding entryAt
   entry-is x d v p e f = by (readChange k (drop at s)) refl (sym e ∙ f)
     where
       by : (g : Got Change) → readChange k (drop at s) ≡ g → readAs k (length s) g ≡ read.Change d v p
-          → nextOf (length s) (andThen (andThen g (λ x r. gotIf (some (entry (prev + x .d) (x .content))) r)) (λ e r. gotIf (ifYes (entryFits? k n least top e) e) r))
-          ≡ byTests least n top (prev + d) (valueClass v) p
+          → nextOf (length s) (andThen (andThen g (λ x r. gotIf (some (entry (prev + x .d) (x .content))) r)) (λ e r. gotIf (ifYes (entryFits? k n prev top e) e) r))
+          ≡ byTests n top (prev + d) (valueClass v) p
       by bad q e = no-read e
       by (got x r) q e =
           let w = written-read k (drop at s) x r (drop-bytes at s y) q in
           let a : x .d ≡ d = cc in
           let b : valueOf k (x .content) ≡ v = cc in
           let c : length s - length r ≡ p = cc in
-          entry-next k n least top (entry (prev + x .d) (x .content)) (length s) r (w .fits .fits)
-          ∙ ap₂ (λ (d : ℕ) (v : ChangeValue). byTests least n top (prev + d) (valueClass v) (length s - length r)) a b
-          ∙ ap (byTests least n top (prev + d) (valueClass v)) c
+          entry-next k n prev top (entry (prev + x .d) (x .content)) (length s) r (omega arith) (w .fits .fits)
+          ∙ ap₂ (λ (d : ℕ) (v : ChangeValue). byTests n top (prev + d) (valueClass v) (length s - length r)) a b
+          ∙ ap (byTests n top (prev + d) (valueClass v)) c
 
   pub delta-small : (x : ReadChange) (d : ℕ) (v : ChangeValue) (p : ℕ) → x ≡ changeAt k s at → x ≡ read.Change d v p → d ≤ maxDelta
   delta-small x d v p e f = by (readChange k (drop at s)) refl (sym e ∙ f)
@@ -120,19 +120,15 @@ module _ (k : SignalEncoding) (n top prev least : ℕ) (s : List ℕ) (at : ℕ)
       by (got x r) q e = let w = written-read k (drop at s) x r (drop-bytes at s y) q in let a : x .d ≡ d = cc in rw (← a) (w .fits .small)
 
   module _ (x : ReadChange) (d : ℕ) (v : ChangeValue) (p : ℕ) (e : x ≡ changeAt k s at) (f : x ≡ read.Change d v p) where
-    pub entry-early : prev + d < least → Wrong ≡ entryAt k n top prev least s at
-    entry-early h = sym (entry-is x d v p e f ∙ ap (λ (t : Bool). pick t (pick (ltb (prev + d) n) (pick (leb (valueClass v) top) (At (prev + d) p) Wrong) Wrong) Wrong) (lt-leb least (prev + d) h))
+    pub entry-late : n ≤ prev + d → Wrong ≡ entryAt k n top prev s at
+    entry-late h = sym (entry-is x d v p e f ∙ ap (λ (u : Bool). pick u (pick (leb (valueClass v) top) (At (prev + d) p) Wrong) Wrong) (le-ltb (prev + d) n h))
 
-    pub entry-late : least ≤ prev + d → n ≤ prev + d → Wrong ≡ entryAt k n top prev least s at
-    entry-late g h =
-        sym (entry-is x d v p e f ∙ ap₂ (λ (t u : Bool). pick t (pick u (pick (leb (valueClass v) top) (At (prev + d) p) Wrong) Wrong) Wrong) (le-leb least (prev + d) g) (le-ltb (prev + d) n h))
-
-    pub entry-class : (c : ℕ) → c ≡ valueClass v → least ≤ prev + d → prev + d < n → top < c → Wrong ≡ entryAt k n top prev least s at
-    entry-class c q g h i =
-        sym (entry-is x d v p e f ∙ ap₂ (λ (t u : Bool). pick t (pick u (pick (leb (valueClass v) top) (At (prev + d) p) Wrong) Wrong) Wrong) (le-leb least (prev + d) g) (lt-ltb (prev + d) n h)
+    pub entry-class : (c : ℕ) → c ≡ valueClass v → prev + d < n → top < c → Wrong ≡ entryAt k n top prev s at
+    entry-class c q h i =
+        sym (entry-is x d v p e f ∙ ap (λ (u : Bool). pick u (pick (leb (valueClass v) top) (At (prev + d) p) Wrong) Wrong) (lt-ltb (prev + d) n h)
         ∙ ap (λ (t : Bool). pick t (At (prev + d) p) Wrong) (ap (λ (c : ℕ). leb c top) (sym q) ∙ lt-leb c top i))
 
-    pub entry-fits : (c : ℕ) → c ≡ valueClass v → least ≤ prev + d → prev + d < n → c ≤ top → At (prev + d) p ≡ entryAt k n top prev least s at
-    entry-fits c q g h i =
-        sym (entry-is x d v p e f ∙ ap₂ (λ (t u : Bool). pick t (pick u (pick (leb (valueClass v) top) (At (prev + d) p) Wrong) Wrong) Wrong) (le-leb least (prev + d) g) (lt-ltb (prev + d) n h)
+    pub entry-fits : (c : ℕ) → c ≡ valueClass v → prev + d < n → c ≤ top → At (prev + d) p ≡ entryAt k n top prev s at
+    entry-fits c q h i =
+        sym (entry-is x d v p e f ∙ ap (λ (u : Bool). pick u (pick (leb (valueClass v) top) (At (prev + d) p) Wrong) Wrong) (lt-ltb (prev + d) n h)
         ∙ ap (λ (t : Bool). pick t (At (prev + d) p) Wrong) (ap (λ (c : ℕ). leb c top) (sym q) ∙ le-leb c top i))

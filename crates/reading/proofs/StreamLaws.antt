@@ -17,7 +17,7 @@ use Rattle.signal.specs.declared.kind.SignalEncoding.{SignalEncoding}
 use Rattle.stream.specs.Entries.{Entry}
 use Rattle.form.specs.Form.{consTo, more, chain, ifYes}
 use Rattle.form.specs.Decide.{lt?}
-use Rattle.codec.specs.Walk.{walkEntry, nextState}
+use Rattle.codec.specs.Walk.{walkEntry}
 use Rattle.codec.proofs.WalkBlock.{walk-entry-laws, walk-entry-long}
 use Rattle.reading.specs.Decided.{isYes}
 use Rattle.reading.specs.Stream.{nextOf, entryAt, isStream, isChain}
@@ -35,63 +35,63 @@ module _ (k : SignalEncoding) (n top : ℕ) where
   some-cons x (some l) = refl
 
   Rest : Entry → List ℕ → Option (List Entry)
-  Rest x r = chain (walkEntry k n top) nextState (nextState x) .read r
+  Rest x r = chain (walkEntry k n top) (λ e. e .index) (x .index) .read r
 
-  module _ (prev least : ℕ) (s : List ℕ) (at : ℕ) (y : Bytes s) (h : at < length s) where
-    turn : chain (walkEntry k n top) nextState (prev, least) .read (drop at s) ≡ more (walkEntry k n top (prev, least) .get (drop at s)) Rest
+  module _ (prev : ℕ) (s : List ℕ) (at : ℕ) (y : Bytes s) (h : at < length s) where
+    turn : chain (walkEntry k n top) (λ e. e .index) prev .read (drop at s) ≡ more (walkEntry k n top prev .get (drop at s)) Rest
     unfolding Rest
-    turn = chain-turn (walkEntry k n top) nextState (walk-entry-laws k n top) (walk-entry-long k n top) (prev, least) (drop at s) (drop-bytes at s y) (omega (arith, length-drop at s))
+    turn = chain-turn (walkEntry k n top) (λ e. e .index) (walk-entry-laws k n top) (walk-entry-long k n top) prev (drop at s) (drop-bytes at s y) (omega (arith, length-drop at s))
 
-    turn-bad : entryAt k n top prev least s at ≡ Wrong → isChain k n top prev least (drop at s) ≡ false
+    turn-bad : entryAt k n top prev s at ≡ Wrong → isChain k n top prev (drop at s) ≡ false
     unfolding entryAt isChain
-    turn-bad e = ap isSome turn ∙ go (walkEntry k n top (prev, least) .get (drop at s)) e
+    turn-bad e = ap isSome turn ∙ go (walkEntry k n top prev .get (drop at s)) e
       where
         go : (g : Got Entry) → nextOf (length s) g ≡ Wrong → isSome (more g Rest) ≡ false
         go bad e = refl
         go (got c r) e = no-next (sym e)
 
-    pub stream-wrong : (x : NextChange) → x ≡ entryAt k n top prev least s at → x ≡ Wrong → false ≡ isChain k n top prev least (drop at s)
+    pub stream-wrong : (x : NextChange) → x ≡ entryAt k n top prev s at → x ≡ Wrong → false ≡ isChain k n top prev (drop at s)
     stream-wrong x e f = sym (turn-bad (sym e ∙ f))
 
     pub record Turn (i p : ℕ) : Type 0 where
       pub past : at < p
       pub inside : p ≤ length s
       pub small : i < n
-      pub rest : isChain k n top prev least (drop at s) ≡ isChain k n top i i (drop p s)
+      pub rest : isChain k n top prev (drop at s) ≡ isChain k n top i (drop p s)
 
-    pub stream-turn : (x : NextChange) (i p : ℕ) → x ≡ entryAt k n top prev least s at → x ≡ At i p → Turn i p
+    pub stream-turn : (x : NextChange) (i p : ℕ) → x ≡ entryAt k n top prev s at → x ≡ At i p → Turn i p
     unfolding entryAt isChain Rest
-    stream-turn x i p f q = go (walkEntry k n top (prev, least) .get (drop at s)) refl (sym f ∙ q)
+    stream-turn x i p f q = go (walkEntry k n top prev .get (drop at s)) refl (sym f ∙ q)
       where
-        go : (g : Got Entry) → walkEntry k n top (prev, least) .get (drop at s) ≡ g → nextOf (length s) g ≡ At i p → Turn i p
+        go : (g : Got Entry) → walkEntry k n top prev .get (drop at s) ≡ g → nextOf (length s) g ≡ At i p → Turn i p
         go bad q e = no-next e
         go (got c r) q e =
-            let w = read-at (walkEntry k n top (prev, least)) (walk-entry-laws k n top (prev, least)) s at c r y q in
-            let l = walk-entry-long k n top (prev, least) c (w .ok) in
+            let w = read-at (walkEntry k n top prev) (walk-entry-laws k n top prev) s at c r y q in
+            let l = walk-entry-long k n top prev c (w .ok) in
             let j : c .index ≡ i = cc in
             let z : length s - length r ≡ p = cc in
-            let m : length r ≡ length s - (at + length (walkEntry k n top (prev, least) .put c)) = ap length (w .rest) ∙ length-drop _ s in
+            let m : length r ≡ length s - (at + length (walkEntry k n top prev .put c)) = ap length (w .rest) ∙ length-drop _ s in
             let v = w .inside (omega arith) in
-            let d : at + length (walkEntry k n top (prev, least) .put c) ≡ p = omega arith in
+            let d : at + length (walkEntry k n top prev .put c) ≡ p = omega arith in
             let u = w .ok .1 .inside in
             record {
               past = omega arith;
               inside = omega arith;
               small = omega arith;
               rest = ap isSome (turn ∙ ap (λ (g : Got Entry). more g Rest) q)
-                  ∙ some-cons c (chain (walkEntry k n top) nextState (nextState c) .read r)
-                  ∙ ap₂ (λ (i : ℕ) (r : List ℕ). isSome (chain (walkEntry k n top) nextState (i, i) .read r)) j (w .rest ∙ ap (λ (k : ℕ). drop k s) d);
+                  ∙ some-cons c (chain (walkEntry k n top) (λ e. e .index) (c .index) .read r)
+                  ∙ ap₂ (λ (i : ℕ) (r : List ℕ). isSome (chain (walkEntry k n top) (λ e. e .index) i .read r)) j (w .rest ∙ ap (λ (k : ℕ). drop k s) d);
             }
 
-  chain-none : (prev least : ℕ) → isChain k n top prev least [] ≡ true
+  chain-none : (prev : ℕ) → isChain k n top prev [] ≡ true
   unfolding isChain
-  chain-none prev least = ap isSome (chain-stop (walkEntry k n top) nextState (walk-entry-laws k n top) (walk-entry-long k n top) (prev, least))
+  chain-none prev = ap isSome (chain-stop (walkEntry k n top) (λ e. e .index) (walk-entry-laws k n top) (walk-entry-long k n top) prev)
 
-  stream-none : (least : ℕ) → isStream k n least top [] ≡ false
+  stream-none : isStream k n top [] ≡ false
   unfolding isStream
-  stream-none least =
+  stream-none =
       ap (λ (o : Option (List Entry)). isSome (bind o (λ l. ifYes (lt? 0 (length l)) l)))
-      (chain-stop (walkEntry k n top) nextState (walk-entry-laws k n top) (walk-entry-long k n top) (0, least))
+      (chain-stop (walkEntry k n top) (λ e. e .index) (walk-entry-laws k n top) (walk-entry-long k n top) 0)
 
   yes-some : {P : Type 0} (d : Dec P) (l : List Entry) → isSome (ifYes d l) ≡ isYes d
   yes-some (yes p) l = refl
@@ -105,15 +105,15 @@ module _ (k : SignalEncoding) (n top : ℕ) where
       go none = refl
       go (some l) = yes-some (lt? 0 (length (c ∷ l))) (c ∷ l) ∙ yes-lt 0 (length (c ∷ l)) ∙ lt-ltb 0 (length (c ∷ l)) (omega arith)
 
-  pub stream-any : (least : ℕ) (s : List ℕ) → Bytes s → 0 < length s → isStream k n least top s ≡ isChain k n top 0 least s
+  pub stream-any : (s : List ℕ) → Bytes s → 0 < length s → isStream k n top s ≡ isChain k n top 0 s
   unfolding isStream isChain
-  stream-any least s y h =
-      let t = turn 0 least s 0 y h in
+  stream-any s y h =
+      let t = turn 0 s 0 y h in
       ap (λ (o : Option (List Entry)). isSome (bind o (λ l. ifYes (lt? 0 (length l)) l))) t
-      ∙ any-more (walkEntry k n top (0, least) .get s) Rest ∙ sym (ap isSome t)
+      ∙ any-more (walkEntry k n top 0 .get s) Rest ∙ sym (ap isSome t)
 
-  pub stream-end : (least prev low : ℕ) (s : List ℕ) (at : ℕ) → Bytes s → length s ≤ at → isChain k n top prev low (drop at s) ≡ isChain k n top 0 least s
-      → ltb 0 (length s) ≡ isStream k n least top s
-  stream-end least prev low [] at y h e = sym (stream-none least)
-  stream-end least prev low (x ∷ s) at y h e =
-      lt-ltb 0 (length (x ∷ s)) (omega arith) ∙ sym (chain-none prev low) ∙ ap (isChain k n top prev low) (sym (drop-of-length-le (x ∷ s) h)) ∙ e ∙ sym (stream-any least (x ∷ s) y (omega arith))
+  pub stream-end : (prev : ℕ) (s : List ℕ) (at : ℕ) → Bytes s → length s ≤ at → isChain k n top prev (drop at s) ≡ isChain k n top 0 s
+      → ltb 0 (length s) ≡ isStream k n top s
+  stream-end prev [] at y h e = sym (stream-none)
+  stream-end prev (x ∷ s) at y h e =
+      lt-ltb 0 (length (x ∷ s)) (omega arith) ∙ sym (chain-none prev) ∙ ap (isChain k n top prev) (sym (drop-of-length-le (x ∷ s) h)) ∙ e ∙ sym (stream-any (x ∷ s) y (omega arith))

@@ -1,53 +1,48 @@
 -- Times turn by turn.
 -- Assumes nothing.
-use Prim.Native.Nat.{ℕ, zero, suc, _+_, _-_, _*_, _≤_, _<_}
+use Prim.Native.Nat.{ℕ, _+_, _-_, _*_, _≤_, _<_}
 use mathlib.Core.Path.{_≡_, refl, sym, ap, ap₂, _∙_}
-use mathlib.Core.Bool.{Bool, true, false, _&&_}
+use mathlib.Core.Bool.{Bool, true, false}
 use mathlib.Core.List.{List, [], _∷_}
 use native.Mathlib.Omega.{arith}
-use borrow.Author.Tests.{le-leb, lt-leb, lt-ltb, le-ltb}
-use lib.Dec.{leb, ltb, eqb}
+use borrow.Author.Tests.{lt-ltb, le-ltb}
+use lib.Dec.{leb, ltb}
 use lib.ListN.{length, take, drop, getD}
 use Rattle.lists.specs.Choice.{pick}
 use Rattle.lists.specs.Got.{Got}
 use Rattle.lists.specs.Last.{lastOr}
 use Rattle.numbers.specs.LittleEndian.{unle}
 use Rattle.form.specs.Form.{andThen, gotIf, ifYes}
-use Rattle.form.specs.Decide.{le?, lt?, eq?, false-true, both}
-use Rattle.codec.specs.Valid.{risingFrom?, rising?, begins?}
-use Rattle.reading.specs.Decided.{isYes, uints, endOf}
-use Rattle.reading.specs.Times.{lastTime, timesAt, beginsAt, riseFrom, risingAt}
+use Rattle.form.specs.Decide.{le?, lt?, both}
+use Rattle.codec.specs.Valid.{risingFrom?, rising?, starts?}
+use Rattle.codec.specs.Ends.{endOf}
+use Rattle.reading.specs.Decided.{isYes, uints}
+use Rattle.reading.specs.Times.{lastTime, timesAt, startsAt, riseFrom, risingAt}
 use Rattle.reading.specs.declared.times.Times.{Times}
 use Rattle.reading.specs.declared.times.Times.the-variants.{Last, Wrong}
-use Rattle.reading.proofs.DecidedLaws.{yes-le, yes-lt, yes-eq, yes-both, pick-both}
-use Rattle.reading.proofs.PlaceLaws.{uints-at, uints-more, uints-none, uints-length}
+use Rattle.reading.proofs.DecidedLaws.{yes-le, yes-lt, yes-both, pick-both}
+use Rattle.reading.proofs.PlaceLaws.{uints-at, uints-more, uints-none}
 
--- ---- how a block begins
+-- ---- how a block starts
 
-pub begins-first : (n : ℕ) (s : List ℕ) (at : ℕ) (later : Bool) (end : ℕ) → later ≡ false → ltb 0 n ≡ beginsAt n s at later end
-unfolding beginsAt begins?
-begins-first n s at true end e = let z : _≡_ {A = ℕ} 0 1 = cc in absurd (omega arith)
-begins-first n s at false end e = sym (yes-le 1 (length (uints 8 n s at)) ∙ ap (leb 1) (uints-length 8 n s at) ∙ same n)
-  where
-    same : (n : ℕ) → leb 1 n ≡ ltb 0 n
-    same zero = refl
-    same (suc n) = le-leb 1 (suc n) (omega arith) ∙ sym (lt-ltb 0 (suc n) (omega arith))
+pub starts-first : (s : List ℕ) (at : ℕ) (later : Bool) (end : ℕ) → later ≡ false → true ≡ startsAt s at later end
+unfolding startsAt starts?
+starts-first s at true end e = let z : _≡_ {A = ℕ} 0 1 = cc in absurd (omega arith)
+starts-first s at false end e = refl
 
-later-is : (n : ℕ) (s : List ℕ) (at end : ℕ) → beginsAt n s at true end ≡ leb 2 n && eqb (getD (uints 8 n s at) 0 0) end
-unfolding beginsAt begins?
-later-is n s at end =
-    yes-both (le? 2 (length (uints 8 n s at))) (eq? (getD (uints 8 n s at) 0 0) end)
-    ∙ ap₂ _&&_ (yes-le 2 (length (uints 8 n s at)) ∙ ap (leb 2) (uints-length 8 n s at)) (yes-eq (getD (uints 8 n s at) 0 0) end)
+-- the first time of n, one at least
+first-of : (n : ℕ) (s : List ℕ) (at : ℕ) → 0 < n → getD (uints 8 n s at) 0 0 ≡ unle (take 8 (drop at s))
+first-of n s at h = ap (λ (l : List ℕ). getD l 0 0) (uints-more 8 n s at h)
 
-pub begins-short : (n : ℕ) (s : List ℕ) (at : ℕ) (later : Bool) (end : ℕ) → later ≡ true → n < 2 → false ≡ beginsAt n s at later end
-begins-short n s at true end e h = sym (later-is n s at end ∙ ap (λ (t : Bool). t && eqb (getD (uints 8 n s at) 0 0) end) (lt-leb 2 n h))
-begins-short n s at false end e h = let z : _≡_ {A = ℕ} 0 1 = cc in absurd (omega arith)
+pub starts-with : (s : List ℕ) (at : ℕ) (later : Bool) (end t : ℕ) → later ≡ true → t ≡ unle (take 8 (drop at s)) → leb end t ≡ startsAt s at later end
+unfolding startsAt starts?
+starts-with s at true end t e q = sym (yes-le end (getD (uints 8 1 s at) 0 0) ∙ ap (leb end) (first-of 1 s at (omega arith) ∙ sym q))
+starts-with s at false end t e q = let z : _≡_ {A = ℕ} 0 1 = cc in absurd (omega arith)
 
-pub begins-with : (n : ℕ) (s : List ℕ) (at : ℕ) (later : Bool) (end t : ℕ) → later ≡ true → 2 ≤ n → t ≡ unle (take 8 (drop at s)) → eqb t end ≡ beginsAt n s at later end
-begins-with n s at true end t e h q =
-    let f : getD (uints 8 n s at) 0 0 ≡ t = ap (λ (l : List ℕ). getD l 0 0) (uints-more 8 n s at (omega arith)) ∙ sym q in
-    sym (later-is n s at end ∙ ap₂ (λ (t : Bool) (u : ℕ). t && eqb u end) (le-leb 2 n h) f)
-begins-with n s at false end t e h q = let z : _≡_ {A = ℕ} 0 1 = cc in absurd (omega arith)
+starts-all : (n : ℕ) (s : List ℕ) (at : ℕ) (later : Bool) (end : ℕ) → 0 < n → isYes (starts? (endOf later end) (uints 8 n s at)) ≡ startsAt s at later end
+unfolding startsAt starts?
+starts-all n s at false end h = refl
+starts-all n s at true end h = ap (λ (t : ℕ). isYes (le? end t)) (first-of n s at h ∙ sym (first-of 1 s at (omega arith)))
 
 -- ---- all at once, and time by time
 
@@ -102,32 +97,24 @@ last-yes (no p) q r = refl
 
 -- all tests at once
 pub times-yes : (n : ℕ) (s : List ℕ) (at : ℕ) (later : Bool) (end : ℕ) → at + 8 * n ≤ length s
-    → timesAt n s at later end ≡ pick (isYes (both (begins? (endOf later end) (uints 8 n s at)) (rising? (uints 8 n s at)))) (Last (lastOr 0 (uints 8 n s at))) Wrong
+    → timesAt n s at later end ≡ pick (isYes (both (starts? (endOf later end) (uints 8 n s at)) (rising? (uints 8 n s at)))) (Last (lastOr 0 (uints 8 n s at))) Wrong
 unfolding timesAt
 times-yes n s at later end h =
     let l : List ℕ = uints 8 n s at in
-    ap (λ (g : Got (List ℕ)). lastTime (andThen g (λ x r. gotIf (ifYes (both (begins? (endOf later end) x) (rising? x)) x) r))) (uints-at 8 n s at h)
-    ∙ last-yes (both (begins? (endOf later end) l) (rising? l)) l (drop (at + 8 * n) s)
+    ap (λ (g : Got (List ℕ)). lastTime (andThen g (λ x r. gotIf (ifYes (both (starts? (endOf later end) x) (rising? x)) x) r))) (uints-at 8 n s at h)
+    ∙ last-yes (both (starts? (endOf later end) l) (rising? l)) l (drop (at + 8 * n) s)
 
-pub times-is : (n : ℕ) (s : List ℕ) (at : ℕ) (later : Bool) (end : ℕ) → at + 8 * n ≤ length s → timesAt n s at later end ≡ pick (beginsAt n s at later end) (risingAt n s at) Wrong
-unfolding beginsAt risingAt
+pub times-is : (n : ℕ) (s : List ℕ) (at : ℕ) (later : Bool) (end : ℕ) → (0 < n) × (at + 8 * n ≤ length s) → timesAt n s at later end ≡ pick (startsAt s at later end) (risingAt n s at) Wrong
+unfolding risingAt
 times-is n s at later end h =
     let l : List ℕ = uints 8 n s at in
-    times-yes n s at later end h
-    ∙ ap (λ (t : Bool). pick t (Last (lastOr 0 l)) Wrong) (yes-both (begins? (endOf later end) l) (rising? l))
-    ∙ pick-both (isYes (begins? (endOf later end) l)) (isYes (rising? l)) (Last (lastOr 0 l)) Wrong
+    times-yes n s at later end (h .1)
+    ∙ ap (λ (t : Bool). pick t (Last (lastOr 0 l)) Wrong) (yes-both (starts? (endOf later end) l) (rising? l))
+    ∙ pick-both (isYes (starts? (endOf later end) l)) (isYes (rising? l)) (Last (lastOr 0 l)) Wrong
+    ∙ ap (λ (t : Bool). pick t (pick (isYes (rising? l)) (Last (lastOr 0 l)) Wrong) Wrong) (starts-all n s at later end (h .0))
 
-none-begins : (n : ℕ) (s : List ℕ) (at : ℕ) (later : Bool) (end : ℕ) → n ≡ 0 → beginsAt n s at later end ≡ false
-none-begins n s at true end e = sym (begins-short n s at true end refl (omega arith))
-none-begins n s at false end e = sym (begins-first n s at false end refl) ∙ le-ltb 0 n (omega arith)
+pub times-starts : (n : ℕ) (s : List ℕ) (at : ℕ) (later : Bool) (end : ℕ) (t : Bool) → (0 < n) × (at + 8 * n ≤ length s) → t ≡ startsAt s at later end → t ≡ false → Wrong ≡ timesAt n s at later end
+times-starts n s at later end t h e f = sym (times-is n s at later end h ∙ ap (λ (t : Bool). pick t (risingAt n s at) Wrong) (sym e ∙ f))
 
--- a block begins with a time
-pub begins-some : (n : ℕ) (s : List ℕ) (at : ℕ) (later : Bool) (end : ℕ) → beginsAt n s at later end ≡ true → 0 < n
-begins-some zero s at later end e = absurd (false-true (sym (none-begins zero s at later end refl) ∙ e))
-begins-some (suc n) s at later end e = omega arith
-
-pub times-begins : (n : ℕ) (s : List ℕ) (at : ℕ) (later : Bool) (end : ℕ) (t : Bool) → at + 8 * n ≤ length s → t ≡ beginsAt n s at later end → t ≡ false → Wrong ≡ timesAt n s at later end
-times-begins n s at later end t h e f = sym (times-is n s at later end h ∙ ap (λ (t : Bool). pick t (risingAt n s at) Wrong) (sym e ∙ f))
-
-pub times-rising : (n : ℕ) (s : List ℕ) (at : ℕ) (later : Bool) (end : ℕ) (t : Bool) (x : Times) → at + 8 * n ≤ length s → t ≡ beginsAt n s at later end → t ≡ true → x ≡ risingAt n s at → x ≡ timesAt n s at later end
+pub times-rising : (n : ℕ) (s : List ℕ) (at : ℕ) (later : Bool) (end : ℕ) (t : Bool) (x : Times) → (0 < n) × (at + 8 * n ≤ length s) → t ≡ startsAt s at later end → t ≡ true → x ≡ risingAt n s at → x ≡ timesAt n s at later end
 times-rising n s at later end t x h e f q = q ∙ sym (times-is n s at later end h ∙ ap (λ (t : Bool). pick t (risingAt n s at) Wrong) (sym e ∙ f))

@@ -3,9 +3,7 @@
 use Prim.Native.Nat.{ℕ, zero, suc, _+_}
 use mathlib.Core.Bool.{Bool, true, false}
 use mathlib.Core.List.{List, [], _∷_}
-use mathlib.Core.Option.{Option, some, none}
 use lib.ListN.{take, drop}
-use Rattle.lists.specs.Choice.{pick}
 use Rattle.numbers.specs.LittleEndian.{unle}
 
 abbrev pub isYes : {P : Type 0} → Dec P → Bool
@@ -16,7 +14,3 @@ isYes (no n) = false
 unfoldable pub uints : (w n : ℕ) → List ℕ → (at : ℕ) → List ℕ
 uints w zero s at = []
 uints w (suc n) s at = unle (take w (drop at s)) ∷ uints w n s (at + w)
-
--- the last time before a block, if one came before it
-abbrev pub endOf : (later : Bool) → ℕ → Option ℕ
-endOf later end = pick later (some end) none

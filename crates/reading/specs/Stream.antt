@@ -12,7 +12,7 @@ use Rattle.signal.specs.declared.decode.ChangeValue.{ChangeValue}
 use Rattle.signal.specs.declared.decode.ChangeValue.the-variants as value
 use Rattle.stream.specs.Entries.{Entry}
 use Rattle.form.specs.Form.{chain}
-use Rattle.codec.specs.Walk.{walkEntry, nextState, walkStream}
+use Rattle.codec.specs.Walk.{walkEntry, walkStream}
 use Rattle.reading.specs.declared.changes.NextChange.{NextChange}
 use Rattle.reading.specs.declared.changes.NextChange.the-variants.{At, Wrong}
 
@@ -27,12 +27,12 @@ abbrev pub nextOf : (n : ℕ) → Got Entry → NextChange
 nextOf n bad = Wrong
 nextOf n (got e r) = At (e .index) (n - length r)
 
-unfoldable pub entryAt : SignalEncoding → (n top previous least : ℕ) → List ℕ → (at : ℕ) → NextChange
-entryAt k n top previous least s at = nextOf (length s) (walkEntry k n top (previous, least) .get (drop at s))
+unfoldable pub entryAt : SignalEncoding → (n top previous : ℕ) → List ℕ → (at : ℕ) → NextChange
+entryAt k n top previous s at = nextOf (length s) (walkEntry k n top previous .get (drop at s))
 
-unfoldable pub isStream : SignalEncoding → (n least top : ℕ) → List ℕ → Bool
-isStream k n least top s = isSome (walkStream k n least top .read s)
+unfoldable pub isStream : SignalEncoding → (n top : ℕ) → List ℕ → Bool
+isStream k n top s = isSome (walkStream k n top .read s)
 
 -- what is left of a stream, after a change at the index previous
-unfoldable pub isChain : SignalEncoding → (n top previous least : ℕ) → List ℕ → Bool
-isChain k n top previous least s = isSome (chain (walkEntry k n top) nextState (previous, least) .read s)
+unfoldable pub isChain : SignalEncoding → (n top previous : ℕ) → List ℕ → Bool
+isChain k n top previous s = isSome (chain (walkEntry k n top) (λ e. e .index) previous .read s)

@@ -8,9 +8,10 @@ use lib.ListN.{drop}
 use Rattle.lists.specs.Choice.{pick}
 use Rattle.lists.specs.Got.{Got, bad, got}
 use Rattle.lists.specs.Last.{lastOr}
-use Rattle.codec.specs.Valid.{begins?, rising?}
+use Rattle.codec.specs.Valid.{starts?, rising?}
 use Rattle.codec.specs.Walk.{walkTimes}
-use Rattle.reading.specs.Decided.{isYes, uints, endOf}
+use Rattle.codec.specs.Ends.{endOf}
+use Rattle.reading.specs.Decided.{isYes, uints}
 use Rattle.reading.specs.declared.times.Times.{Times}
 use Rattle.reading.specs.declared.times.Times.the-variants.{Last, Wrong}
 
@@ -21,8 +22,9 @@ lastTime (got ts r) = Last (lastOr 0 ts)
 unfoldable pub timesAt : (n : ℕ) → List ℕ → (at : ℕ) → (later : Bool) → (end : ℕ) → Times
 timesAt n s at later end = lastTime (walkTimes (endOf later end) n .get (drop at s))
 
-unfoldable pub beginsAt : (n : ℕ) → List ℕ → (at : ℕ) → (later : Bool) → (end : ℕ) → Bool
-beginsAt n s at later end = isYes (begins? (endOf later end) (uints 8 n s at))
+-- by the first time alone
+unfoldable pub startsAt : List ℕ → (at : ℕ) → (later : Bool) → (end : ℕ) → Bool
+startsAt s at later end = isYes (starts? (endOf later end) (uints 8 1 s at))
 
 -- time by time, after a time t
 unfoldable pub riseFrom : ℕ → List ℕ → Times

@@ -26,7 +26,7 @@ fn class_of(value: ChangeValue) -> u8
     }
 }
 
-// The change at a place of a stream, after one at index `previous`: from index `least` on and below `times`, of a class up to top.
+// The change at a place of a stream, after one at index `previous`: below `times`, of a class up to top.
 fn change_at(
     s: &[u8],
     at: usize,
@@ -34,17 +34,13 @@ fn change_at(
     times: u32,
     top: u8,
     previous: u32,
-    least: u32,
 ) -> NextChange
     requires { ⌜ previous ≤ 65535 ⌝ }
-    ensures { λ r. ⌜ r ≡ entryAt kind times top previous least (now (s .entry)) at ⌝ }
+    ensures { λ r. ⌜ r ≡ entryAt kind times top previous (now (s .entry)) at ⌝ }
 {
     match read_change(s, at, kind) {
         ReadChange::Change(d, value, next) => {
             let index = previous + d;
-            if index < least {
-                return NextChange::Wrong;
-            }
             if times <= index {
                 return NextChange::Wrong;
             }
@@ -57,19 +53,17 @@ fn change_at(
     }
 }
 
-// Whether bytes are the stream of a signal in a block: changes at indices from `least` on and below `times`, of classes up to top.
-pub fn is_stream(s: &[u8], kind: SignalEncoding, times: u32, least: u32, top: u8) -> bool
+// Whether bytes are the stream of a signal in a block: changes at indices below `times`, of classes up to top.
+pub fn is_stream(s: &[u8], kind: SignalEncoding, times: u32, top: u8) -> bool
     requires { ⌜ times ≤ 65535 ⌝ }
-    ensures { λ r. ⌜ r ≡ isStream kind times least top (now (s .entry)) ⌝ }
+    ensures { λ r. ⌜ r ≡ isStream kind times top (now (s .entry)) ⌝ }
 {
     let mut at: usize = 0;
     let mut previous: u32 = 0;
-    let mut low = least;
     while at < s.len() {
-        match change_at(s, at, kind, times, top, previous, low) {
+        match change_at(s, at, kind, times, top, previous) {
             NextChange::At(index, next) => {
                 previous = index;
-                low = index;
                 at = next;
             }
             NextChange::Wrong => {

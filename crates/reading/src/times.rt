@@ -3,7 +3,7 @@ use numbers::little_endian::get_u64;
 ghost use mathlib.Core.Path.{_≡_};
 ghost use Prim.Native.Nat.{_+_, _*_, _≤_, _<_};
 ghost use lib.ListN.{length};
-ghost use Rattle.reading.specs.Times.{beginsAt, risingAt, timesAt};
+ghost use Rattle.reading.specs.Times.{startsAt, risingAt, timesAt};
 
 // The last time, or no times of a block.
 pub enum Times {
@@ -11,18 +11,15 @@ pub enum Times {
     Wrong,
 }
 
-// Whether n times at a place begin as a block's: a first block has a time; a later one begins with the end before it, and has one more.
-fn begins(s: &[u8], at: usize, n: usize, later: bool, end: u64) -> bool
-    requires { ⌜ at + 8 * n ≤ length (now s) ⌝ }
-    ensures { λ r. ⌜ r ≡ beginsAt n (now (s .entry)) at later end ⌝ }
+// Whether the times at a place start as a block's: in a later one at or after the end before it.
+fn starts(s: &[u8], at: usize, later: bool, end: u64) -> bool
+    requires { ⌜ at + 8 ≤ length (now s) ⌝ }
+    ensures { λ r. ⌜ r ≡ startsAt (now (s .entry)) at later end ⌝ }
 {
     if !later {
-        return 0 < n;
+        return true;
     }
-    if n < 2 {
-        return false;
-    }
-    get_u64(s, at) == end
+    end <= get_u64(s, at)
 }
 
 // The last of n times at a place, if each is above the one before it.
@@ -43,12 +40,12 @@ fn rising(s: &[u8], at: usize, n: usize) -> Times
     Times::Last(last)
 }
 
-// The n times of a block at a place; `later` says that a block with the last time `end` came before.
+// The n times of a block at a place, one at least; `later` says that a block with the last time `end` came before.
 pub fn times_at(s: &[u8], at: usize, n: usize, later: bool, end: u64) -> Times
-    requires { ⌜ at + 8 * n ≤ length (now s) ⌝ }
+    requires { ⌜ (0 < n) × (at + 8 * n ≤ length (now s)) ⌝ }
     ensures { λ r. ⌜ r ≡ timesAt n (now (s .entry)) at later end ⌝ }
 {
-    if !begins(s, at, n, later, end) {
+    if !starts(s, at, later, end) {
         return Times::Wrong;
     }
     rising(s, at, n)

@@ -1,3 +1,4 @@
 pub mod CallsLaws
 pub mod Cases
 pub mod StartCases
+pub mod TestsLaws

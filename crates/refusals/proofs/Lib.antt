@@ -1,2 +1,1 @@
-pub mod TestsLaws
 pub mod StateLaws

@@ -10,7 +10,7 @@ use Rattle.lists.proofs.ChoiceLaws.{none-holds}
 use Rattle.recording.specs.declared.Encoder.{Encoder}
 use Rattle.recording.specs.Memory.{first}
 use Rattle.recording.specs.Refusals.{stateTests}
-use Rattle.refusals.proofs.TestsLaws.{positive, none-of}
+use Rattle.recording.proofs.TestsLaws.{positive, none-of}
 
 -- past the tests of B, the held times and the time buffer
 pub limits-past : (s : Encoder) (records times work image : ℕ) → s .closed ≡ false → 2 ≤ s .limit → s .limit ≤ 65535 → s .held ≤ s .limit → s .limit ≤ times

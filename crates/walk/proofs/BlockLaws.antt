@@ -1,6 +1,6 @@
 -- Where an accepted image's blocks begin, that each fits, and what stands at which place of one.
 -- Assumes nothing.
-use Prim.Native.Nat.{ℕ, zero, suc, _+_, _*_, _^_, _≤_, _<_}
+use Prim.Native.Nat.{ℕ, zero, suc, _+_, _-_, _*_, _^_, _≤_, _<_}
 use mathlib.Core.Path.{_≡_, refl, sym, ap, _∙_}
 use mathlib.Core.List.{List, [], _∷_, _++_}
 use mathlib.Core.Option.{Option, none}
@@ -9,6 +9,7 @@ use native.Mathlib.Omega.{arith}
 use lib.ListN.{length, getD, take, drop, length-append, take-append-drop}
 use lib.Seq.{drop-cons, take-suc, take-length}
 use Rattle.lists.specs.Bytes.{Bytes}
+use Rattle.lists.specs.Last.{lastOr}
 use Rattle.numbers.specs.LittleEndian.{le, unle}
 use Rattle.numbers.proofs.LittleEndianLaws.{length-le}
 use Rattle.stream.specs.Entries.{Entry}
@@ -16,10 +17,10 @@ use Rattle.image.specs.Block.{Part, Block, block, les, dataOf, offsetsFrom, blo
 use Rattle.image.specs.Head.{headSize, imageLimit}
 use Rattle.image.specs.Image.{Image, streamedParts, streamed, blocksBytes}
 use Rattle.image.proofs.SizeLaws.{length-les, length-offsets, block-size}
-use Rattle.codec.specs.Valid.{EachBelow}
+use Rattle.codec.specs.Valid.{EachBelow, BlockFits}
 use Rattle.codec.proofs.Trip.{Means}
 use Rattle.codec.proofs.WrittenOut.{count-streamed}
-use Rattle.codec.proofs.Growth.{blocks-append, blocks-one, Fitting, blocks-each}
+use Rattle.codec.proofs.Growth.{blocks-append, blocks-one, blocks-each}
 use Rattle.loaded.specs.Opener.{blockAt}
 use Rattle.walk.specs.Walk.{Opened, imageIn, blockPlace, partsIn, dataPlace, BlockHere}
 use Rattle.walk.proofs.StandLaws.{Stands, stands-front, stands-back, Number, stands-number, stands-nth}
@@ -119,9 +120,9 @@ block-in b x n m h =
     let e : length (y .parts) ≡ length (x .kinds) = count-streamed (x .kinds) (blockAt x n .parts) in
     rw e at (inside b (blockPlace x n) y (head-at b x m .most) (block-stands b x n m h))
 
--- of an accepted image: it fits after those before it
-pub fits-in : (n : ℕ) (b : List ℕ) → Bytes b → Opened b → n < length (imageIn b .blocks) → Fitting (imageIn b .limit) (imageIn b .kinds) (blockAt (imageIn b) n)
-fits-in n b y o h = let x = imageIn b in blocks-each (x .limit) (x .kinds) none [] (x .blocks) (block [] []) (means b y o .valid .blocks) n h
+-- of an accepted image: it fits
+pub fits-in : (n : ℕ) (b : List ℕ) → Bytes b → Opened b → n < length (imageIn b .blocks) → BlockFits (imageIn b .limit) (imageIn b .kinds) (blockAt (imageIn b) n)
+fits-in n b y o h = let x = imageIn b in blocks-each (x .limit) (x .kinds) none (x .blocks) (block [] []) (means b y o .valid .blocks) n h
 
 -- of an accepted image, at a place where a block begins
 pub here : (n at : ℕ) (b : List ℕ) → Bytes b → Opened b → BlockHere n at b
@@ -152,7 +153,7 @@ time-here n at i b y o h k =
     let p : ℕ = at + 12 + 4 * length (x .kinds) in
     let s = stands-nth 8 ts b p i k (here n at b y o h .times) in
     let e : p + i * 8 ≡ p + 8 * i = omega arith in
-    stands-number b (p + 8 * i) 8 (getD ts i 0) (each-below (2 ^ 64) ts i (fits-in n b y o (h .exists) .fits .small) k) (rw e at s)
+    stands-number b (p + 8 * i) 8 (getD ts i 0) (each-below (2 ^ 64) ts i (fits-in n b y o (h .exists) .small) k) (rw e at s)
 
 -- the same time, whichever number the block is known by
 pub time-read : (n m at i s : ℕ) (b : List ℕ) → Bytes b → Opened b → BlockHere n at b → i < length (blockAt (imageIn b) n .times) → BlockHere m at b
@@ -160,3 +161,17 @@ pub time-read : (n m at i s : ℕ) (b : List ℕ) → Bytes b → Opened b → B
 time-read n m at i s b y o h k g e =
     let same : length (blockAt (imageIn b) n .times) ≡ length (blockAt (imageIn b) m .times) = sym (here n at b y o h .count .value) ∙ here m at b y o g .count .value in
     rw e (time-here m at i b y o g (omega arith))
+
+-- the last of times is the one before their number
+pub last-nth : (ts : List ℕ) → 1 ≤ length ts → getD ts (length ts - 1) 0 ≡ lastOr 0 ts
+last-nth [] h = absurd (omega arith)
+last-nth (x ∷ l) h =
+    let e : length (x ∷ l) - 1 ≡ length l = omega arith in
+    ap (λ (i : ℕ). getD (x ∷ l) i 0) e ∙ go 0 x l
+  where
+    go : (d x : ℕ) (l : List ℕ) → getD (x ∷ l) (length l) 0 ≡ lastOr d (x ∷ l)
+    go d x [] = unfold lastOr in refl
+    go d x (y ∷ l) = go x y l ∙ (unfold lastOr in refl)
+
+pub any-time : (n : ℕ) (b : List ℕ) → Bytes b → Opened b → n < length (imageIn b .blocks) → 1 ≤ length (blockAt (imageIn b) n .times)
+any-time n b y o h = fits-in n b y o h .any

@@ -1,4 +1,4 @@
--- What an accepted image's head says: the numbers of signals and blocks, and each signal's kind.
+-- What an accepted image's head says: the numbers of signals and blocks, B, and each signal's kind.
 -- Assumes nothing.
 use Prim.Native.Nat.{ℕ, zero, suc, _+_, _*_, _≤_, _<_}
 use mathlib.Core.Path.{_≡_, refl, sym, ap, _∙_}
@@ -43,6 +43,7 @@ means b y o = meant b (parse b) y refl o
 
 pub record HeadAt (b : List ℕ) (x : Image) : Type 0 where
   pub signals : Number b 0 4 (length (x .kinds))
+  pub limit : Number b 4 4 (x .limit)
   pub number : Number b 8 4 (length (x .blocks))
   pub kinds : Stands b 16 (les 4 (map kindNumber (x .kinds)))
   pub blocks : Stands b (headSize (length (x .kinds))) (blocksBytes (x .kinds) (x .blocks))
@@ -72,6 +73,7 @@ head-at b x m =
     let most : length b ≤ imageLimit = omega (arith, m .valid .total, ap length (m .bytes)) in
     record {
       signals = stands-number b 0 4 (length ks) (omega (arith, m .valid .signals)) (stands-front b 0 (le 4 (length ks)) r1 s0);
+      limit = stands-number b 4 4 (x .limit) (omega (arith, m .valid .high)) (stands-front b 4 (le 4 (x .limit)) r2 s1);
       number = stands-number b 8 4 (length (x .blocks)) (omega (arith, blocks-count ks (x .blocks))) (stands-front b 8 (le 4 (length (x .blocks))) r3 s2);
       kinds = stands-back b 12 4 (le 4 t) r4 (length-le 4 t) s3;
       blocks = rw zero-add at (stands-back b 0 (headSize (length ks)) hb bb (head-size (x .limit) (length (x .blocks)) t ks) all);

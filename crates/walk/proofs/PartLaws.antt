@@ -107,9 +107,9 @@ unfolding streamBytes
 stream-entries k none = refl
 stream-entries k (some p) = refl
 
-pub entries-fit : (k : SignalEncoding) (n i before : ℕ) (p : Option (Part (List Entry))) → OptionFits k n i before p → EntriesFit k n i (topIn p) (entriesIn p)
-entries-fit k n i before none f = tt
-entries-fit k n i before (some p) f = f .entries
+pub entries-fit : (k : SignalEncoding) (n : ℕ) (p : Option (Part (List Entry))) → OptionFits k n p → EntriesFit k n 0 (topIn p) (entriesIn p)
+entries-fit k n none f = tt
+entries-fit k n (some p) f = f .entries
 
 -- ---- at a place where a block begins
 
@@ -247,18 +247,18 @@ pub found-zero : (n g offset : ℕ) (b : List ℕ) → g < length (imageIn b .ki
     → PartHere 0 0 0 n g b
 found-zero n g offset b h e z = found-none n g b h (kept g (partsIn (imageIn b) n) .no-part (sym e ∙ z))
 
-parts-long : (limit : ℕ) (ks : List SignalEncoding) (end : Option ℕ) (tops : List ℕ) (bs : List (Block (List Entry))) (n : ℕ)
-    → BlocksFit limit ks end tops bs → length (getD bs n (block [] []) .parts) ≤ length ks
-parts-long limit ks end tops [] n f = omega arith
-parts-long limit ks end tops (y ∷ bs) zero f = omega (arith, parts-count _ _ ks tops (y .parts) (f .0 .parts))
-parts-long limit ks end tops (y ∷ bs) (suc n) f = parts-long limit ks _ _ bs n (f .1)
+parts-long : (limit : ℕ) (ks : List SignalEncoding) (end : Option ℕ) (bs : List (Block (List Entry))) (n : ℕ)
+    → BlocksFit limit ks end bs → length (getD bs n (block [] []) .parts) ≤ length ks
+parts-long limit ks end [] n f = omega arith
+parts-long limit ks end (y ∷ bs) zero f = omega (arith, parts-count _ ks (y .parts) (f .1 .0 .parts))
+parts-long limit ks end (y ∷ bs) (suc n) f = parts-long limit ks _ bs n (f .1 .1)
 
 -- a signal that does not exist has no part
 pub found-past : (n g : ℕ) (b : List ℕ) → Bytes b → Opened b → length (imageIn b .kinds) ≤ g
     → PartHere 0 0 0 n g b
 found-past n g b y o h =
     let x = imageIn b in
-    let l = parts-long (x .limit) (x .kinds) none [] (x .blocks) n (means b y o .valid .blocks) in
+    let l = parts-long (x .limit) (x .kinds) none (x .blocks) n (means b y o .valid .blocks) in
     no-part n g b (List·getD-eq-default (blockAt x n .parts) none (omega arith))
 
 -- ---- by block number

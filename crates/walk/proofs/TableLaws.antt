@@ -1,14 +1,17 @@
--- The combined table of an accepted image: all times of the first block, and of each later one all but the first.
+-- The combined table of an accepted image: all times of each block but a first one that is the end before it.
 -- Assumes nothing.
 use Prim.Native.Nat.{ℕ, suc, _+_, _-_, _≤_, _<_}
 use mathlib.Core.Path.{_≡_, refl, sym, ap, _∙_}
+use mathlib.Core.Bool.{Bool, true, false}
 use mathlib.Core.List.{List, [], _∷_, _++_, append-assoc, append-nil}
 use mathlib.Core.Option.{Option, some, none}
 use native.Mathlib.Numerals.{add-one}
 use native.Mathlib.Omega.{arith}
-use borrow.Author.Tests.{eq-eqb, lt-ltb, le-ltb}
+use borrow.Author.Tests.{eq-eqb, ne-eqb, eqb-true, lt-ltb, le-ltb}
+use lib.Dec.{eqb}
 use lib.ListN.{length, getD, set, drop, length-append, length-drop, drop-of-length-le}
 use lib.Seq.{sets, drop-cons, drop-length}
+use Rattle.lists.specs.Choice.{pick}
 use Rattle.lists.specs.Last.{lastOr}
 use Rattle.lists.specs.Bytes.{Bytes}
 use Rattle.lists.proofs.LastLaws.{last-append}
@@ -19,116 +22,141 @@ use Rattle.image.specs.Block.{Block, block, blockBytes}
 use Rattle.image.specs.Head.{imageLimit}
 use Rattle.image.specs.Image.{Image, streamed, blocksBytes}
 use Rattle.image.proofs.SizeLaws.{block-size}
-use Rattle.codec.specs.Valid.{Begins, BlocksFit}
+use Rattle.codec.specs.Valid.{BlocksFit}
+use Rattle.codec.specs.Ends.{endOf}
 use Rattle.loaded.specs.Opener.{blockAt}
-use Rattle.loaded.specs.Loading.{joinTimes, tableFrom}
+use Rattle.loaded.specs.Loading.{overlap, joinTimes, tableFrom}
 use Rattle.loaded.specs.Reader.{refuse, counted, tableAfter, tableIn}
-use Rattle.walk.specs.Walk.{Opened, imageIn, addedTimes}
+use Rattle.walk.specs.Walk.{Opened, imageIn, lastTime, sharedTimes, addedTimes}
 use Rattle.walk.proofs.HeadLaws.{means, head-in}
-use Rattle.walk.proofs.BlockLaws.{fits-in}
+use Rattle.walk.proofs.BlockLaws.{any-time}
 
--- ---- each block's first time but the first block's is in the table already
+-- ---- what is shared
 
-last-more : (x : ℕ) (l ts : List ℕ) → 2 ≤ length ts → lastOr x (l ++ drop 1 ts) ≡ lastOr 0 ts
+pub overlap-shared : (l ts : List ℕ) → overlap l ts ≡ sharedTimes (lastTime l) ts
+overlap-shared [] ts = refl
+overlap-shared (x ∷ l) [] = refl
+overlap-shared (x ∷ l) (t ∷ ts) = refl
+
+pub shared-few : (end : Option ℕ) (ts : List ℕ) → sharedTimes end ts ≤ length ts
+shared-few none ts = omega arith
+shared-few (some t) [] = omega arith
+shared-few (some t) (u ∷ ts) = by (eqb u t)
+  where
+    by : (b : Bool) → pick b 1 0 ≤ length (u ∷ ts)
+    by true = omega arith
+    by false = omega arith
+
+pub shared-first : (later : Bool) (end : ℕ) (ts : List ℕ) → later ≡ false → 0 ≡ sharedTimes (endOf later end) ts
+shared-first true end ts e = let z : _≡_ {A = ℕ} 0 1 = cc in absurd (omega arith)
+shared-first false end ts e = refl
+
+pub shared-end : (later : Bool) (end t : ℕ) (ts : List ℕ) → later ≡ true → 1 ≤ length ts → t ≡ getD ts 0 0 → t ≡ end → 1 ≡ sharedTimes (endOf later end) ts
+shared-end true end t [] e h f g = absurd (omega arith)
+shared-end true end t (u ∷ ts) e h f g = rw (eq-eqb u end (sym f ∙ g)) refl
+shared-end false end t ts e h f g = let z : _≡_ {A = ℕ} 0 1 = cc in absurd (omega arith)
+
+pub shared-not : (later : Bool) (end t : ℕ) (ts : List ℕ) → later ≡ true → 1 ≤ length ts → t ≡ getD ts 0 0 → (t ≡ end → ⊥) → 0 ≡ sharedTimes (endOf later end) ts
+shared-not true end t [] e h f g = absurd (omega arith)
+shared-not true end t (u ∷ ts) e h f g = rw (ne-eqb u end (λ q. g (f ∙ q))) refl
+shared-not false end t ts e h f g = let z : _≡_ {A = ℕ} 0 1 = cc in absurd (omega arith)
+
+-- a table with a block's times ends as the block does
+pub last-joined : (l ts : List ℕ) → 1 ≤ length ts → lastTime (joinTimes l ts) ≡ some (lastOr 0 ts)
 unfolding lastOr
-last-more x l [] h = absurd (omega arith)
-last-more x l (u ∷ []) h = absurd (omega arith)
-last-more x l (u ∷ v ∷ r) h = last-append x l (v ∷ r)
+last-joined l [] h = absurd (omega arith)
+last-joined [] (t ∷ ts) h = refl
+last-joined (x ∷ l) (t ∷ ts) h = by (eqb t (lastOr x l)) refl
+  where
+    by : (b : Bool) → eqb t (lastOr x l) ≡ b → lastTime ((x ∷ l) ++ drop (pick b 1 0) (t ∷ ts)) ≡ some (lastOr t ts)
+    by true e = ap some (last-append x l ts ∙ ap (λ (d : ℕ). lastOr d ts) (sym (eqb-true t (lastOr x l) e)))
+    by false e = ap some (last-append x l (t ∷ ts))
 
-one-more : (t x : ℕ) (l ts : List ℕ) → Begins (some t) ts → lastOr x l ≡ t → joinTimes (x ∷ l) ts ≡ x ∷ (l ++ drop 1 ts)
-one-more t x l [] h e = absurd (omega (arith, h .0))
-one-more t x l (u ∷ ts) h e = rw (eq-eqb u (lastOr x l) (h .1 ∙ sym e)) refl
+-- ---- the table
 
 module _ (limit : ℕ) (ks : List SignalEncoding) where
-  table-more : (t : ℕ) (tops : List ℕ) (bs : List (Block (List Entry))) (x : ℕ) (l : List ℕ) → BlocksFit limit ks (some t) tops bs → lastOr x l ≡ t
-      → tableFrom (x ∷ l) bs ≡ (x ∷ l) ++ addedTimes 1 bs
+  table-more : (end : Option ℕ) (bs : List (Block (List Entry))) (l : List ℕ) → BlocksFit limit ks end bs → tableFrom l bs ≡ l ++ addedTimes (lastTime l) bs
   unfolding tableFrom addedTimes
-  table-more t tops [] x l f e = sym (append-nil (x ∷ l))
-  table-more t tops (y ∷ bs) x l f e =
-      ap (λ (k : List ℕ). tableFrom k bs) (one-more t x l (y .times) (f .0 .begins) e)
-      ∙ table-more (lastOr 0 (y .times)) _ bs x (l ++ drop 1 (y .times)) (f .1) (last-more x l (y .times) (f .0 .begins .0))
-      ∙ append-assoc (x ∷ l) (drop 1 (y .times)) (addedTimes 1 bs)
-
-  first-times : (tops : List ℕ) (bs : List (Block (List Entry))) (ts : List ℕ) → 1 ≤ length ts → BlocksFit limit ks (some (lastOr 0 ts)) tops bs
-      → tableFrom ts bs ≡ ts ++ addedTimes 1 bs
-  unfolding lastOr
-  first-times tops bs [] h f = absurd (omega arith)
-  first-times tops bs (x ∷ l) h f = table-more (lastOr x l) tops bs x l f refl
-
-  table-is : (tops : List ℕ) (bs : List (Block (List Entry))) → BlocksFit limit ks none tops bs → tableFrom [] bs ≡ addedTimes 0 bs
-  unfolding tableFrom addedTimes
-  table-is tops [] f = refl
-  table-is tops (y ∷ bs) f = first-times _ bs (y .times) (f .0 .begins) (f .1)
-
--- a block has a time
-times-begin : (end : Option ℕ) (ts : List ℕ) → Begins end ts → 1 ≤ length ts
-times-begin none ts h = h
-times-begin (some t) ts h = omega (arith, h .0)
+  table-more end [] l f = sym (append-nil l)
+  table-more end (y ∷ bs) l f =
+      let ts = y .times in
+      table-more (some (lastOr 0 ts)) bs (joinTimes l ts) (f .1 .1)
+      ∙ ap (λ (e : Option ℕ). joinTimes l ts ++ addedTimes e bs) (last-joined l ts (f .1 .0 .any))
+      ∙ append-assoc l (drop (overlap l ts) ts) (addedTimes (some (lastOr 0 ts)) bs)
+      ∙ ap (λ (n : ℕ). l ++ (drop n ts ++ addedTimes (some (lastOr 0 ts)) bs)) (overlap-shared l ts)
 
 -- the table has no more times than the image bytes
-joined-small : (skip : ℕ) (ks : List SignalEncoding) (bs : List (Block (List Entry))) → length (addedTimes skip bs) ≤ length (blocksBytes ks bs)
+joined-small : (end : Option ℕ) (ks : List SignalEncoding) (bs : List (Block (List Entry))) → length (addedTimes end bs) ≤ length (blocksBytes ks bs)
 unfolding addedTimes blocksBytes
-joined-small skip ks [] = omega arith
-joined-small skip ks (y ∷ bs) =
+joined-small end ks [] = omega arith
+joined-small end ks (y ∷ bs) =
     omega (
       arith,
-      length-append (drop skip (y .times)) (addedTimes 1 bs),
-      length-drop skip (y .times),
+      length-append (drop (sharedTimes end (y .times)) (y .times)) (addedTimes (some (lastOr 0 (y .times))) bs),
+      length-drop (sharedTimes end (y .times)) (y .times),
       length-append (blockBytes (streamed ks y)) (blocksBytes ks bs),
       block-size (streamed ks y),
-      joined-small 1 ks bs,
+      joined-small (some (lastOr 0 (y .times))) ks bs,
     )
 
 -- ---- of an accepted image
 
-pub table-in : (b : List ℕ) → Bytes b → Opened b → tableFrom [] (imageIn b .blocks) ≡ addedTimes 0 (imageIn b .blocks)
-table-in b y o = let x = imageIn b in table-is (x .limit) (x .kinds) [] (x .blocks) (means b y o .valid .blocks)
+pub table-in : (b : List ℕ) → Bytes b → Opened b → tableFrom [] (imageIn b .blocks) ≡ addedTimes none (imageIn b .blocks)
+table-in b y o = let x = imageIn b in table-more (x .limit) (x .kinds) none (x .blocks) [] (means b y o .valid .blocks)
 
-table-small : (b : List ℕ) → Bytes b → Opened b → length (addedTimes 0 (imageIn b .blocks)) ≤ imageLimit
+table-small : (b : List ℕ) → Bytes b → Opened b → length (addedTimes none (imageIn b .blocks)) ≤ imageLimit
 table-small b y o =
     let x = imageIn b in
     let h = head-in b y o in
-    omega (arith, joined-small 0 (x .kinds) (x .blocks), h .size, h .most)
-
-any-time : (n : ℕ) (b : List ℕ) → Bytes b → Opened b → n < length (imageIn b .blocks) → 1 ≤ length (blockAt (imageIn b) n .times)
-any-time n b y o h = let f = fits-in n b y o h in times-begin (f .end) (blockAt (imageIn b) n .times) (f .fits .begins)
+    omega (arith, joined-small none (x .kinds) (x .blocks), h .size, h .most)
 
 -- ---- a turn over the blocks
 
--- the times of block number k, and those of the blocks after it
-joined-next : (skip k : ℕ) (bs : List (Block (List Entry))) → k < length bs
-    → addedTimes skip (drop k bs) ≡ drop skip (getD bs k (block [] []) .times) ++ addedTimes 1 (drop (suc k) bs)
+-- the times that block number k adds, and those of the blocks after it
+joined-next : (end : Option ℕ) (k : ℕ) (bs : List (Block (List Entry))) → k < length bs → (ts : List ℕ) → ts ≡ getD bs k (block [] []) .times
+    → addedTimes end (drop k bs) ≡ drop (sharedTimes end ts) ts ++ addedTimes (some (lastOr 0 ts)) (drop (suc k) bs)
 unfolding addedTimes
-joined-next skip k bs h = rw (drop-cons bs k (block [] []) h) refl
+joined-next end k bs h ts e = rw (e, drop-cons bs k (block [] []) h) refl
 
-joined-count : (skip k : ℕ) (bs : List (Block (List Entry))) → k < length bs
-    → length (addedTimes skip (drop k bs)) ≡ length (getD bs k (block [] []) .times) - skip + length (addedTimes 1 (drop (suc k) bs))
-joined-count skip k bs h =
-    let ts = getD bs k (block [] []) .times in
-    ap length (joined-next skip k bs h) ∙ omega (arith, length-append (drop skip ts) (addedTimes 1 (drop (suc k) bs)), length-drop skip ts)
+joined-count : (end : Option ℕ) (k : ℕ) (bs : List (Block (List Entry))) → k < length bs → (ts : List ℕ) → ts ≡ getD bs k (block [] []) .times
+    → length (addedTimes end (drop k bs)) ≡ length ts - sharedTimes end ts + length (addedTimes (some (lastOr 0 ts)) (drop (suc k) bs))
+joined-count end k bs h ts e =
+    let n : ℕ = sharedTimes end ts in
+    ap length (joined-next end k bs h ts e) ∙ length-append (drop n ts) (addedTimes (some (lastOr 0 ts)) (drop (suc k) bs))
+    ∙ ap (λ (m : ℕ). m + length (addedTimes (some (lastOr 0 ts)) (drop (suc k) bs))) (length-drop n ts)
 
-pub joined-end : (skip : ℕ) (bs : List (Block (List Entry))) → addedTimes skip (drop (length bs) bs) ≡ []
+pub joined-end : (end : Option ℕ) (bs : List (Block (List Entry))) → addedTimes end (drop (length bs) bs) ≡ []
 unfolding addedTimes
-joined-end skip bs = ap (addedTimes skip) (drop-length bs)
+joined-end end bs = ap (addedTimes end) (drop-length bs)
 
-pub joined-sets : (skip k p q : ℕ) (bs : List (Block (List Entry))) (out next : List ℕ) → k < length bs
+pub joined-sets : (end : Option ℕ) (k p q skip u : ℕ) (bs : List (Block (List Entry))) (out next : List ℕ) → k < length bs
+    → skip ≡ sharedTimes end (getD bs k (block [] []) .times) → u ≡ lastOr 0 (getD bs k (block [] []) .times)
     → q ≡ p + (length (getD bs k (block [] []) .times) - skip) → next ≡ sets out p (drop skip (getD bs k (block [] []) .times))
-    → sets next q (addedTimes 1 (drop (suc k) bs)) ≡ sets out p (addedTimes skip (drop k bs))
-joined-sets skip k p q bs out next h e f =
+    → sets next q (addedTimes (some u) (drop (suc k) bs)) ≡ sets out p (addedTimes end (drop k bs))
+joined-sets end k p q skip u bs out next h s l e f =
     let ts = getD bs k (block [] []) .times in
     let d : q ≡ p + length (drop skip ts) = e ∙ ap (λ (n : ℕ). p + n) (sym (length-drop skip ts)) in
-    rw (joined-next skip k bs h, d, f) (sym (sets-append (drop skip ts) (addedTimes 1 (drop (suc k) bs)) out p))
+    let j : addedTimes end (drop k bs) ≡ drop skip ts ++ addedTimes (some u) (drop (suc k) bs) =
+    joined-next end k bs h ts refl ∙ rw (s, l) refl in
+    rw (j, d, f) (sym (sets-append (drop skip ts) (addedTimes (some u) (drop (suc k) bs)) out p))
 
 -- what a turn at block number k needs
-pub record Turn (skip k : ℕ) (b : List ℕ) : Type 0 where
+pub record Turn (end : Option ℕ) (k : ℕ) (b : List ℕ) : Type 0 where
   pub any : 1 ≤ length (blockAt (imageIn b) k .times)
-  pub small : length (addedTimes 0 (imageIn b .blocks)) ≤ imageLimit
+  pub few : sharedTimes end (blockAt (imageIn b) k .times) ≤ length (blockAt (imageIn b) k .times)
+  pub small : length (addedTimes none (imageIn b .blocks)) ≤ imageLimit
   pub count :
-      length (addedTimes skip (drop k (imageIn b .blocks)))
-      ≡ length (blockAt (imageIn b) k .times) - skip + length (addedTimes 1 (drop (suc k) (imageIn b .blocks)))
+      length (addedTimes end (drop k (imageIn b .blocks)))
+      ≡ length (blockAt (imageIn b) k .times) - sharedTimes end (blockAt (imageIn b) k .times)
+      + length (addedTimes (some (lastOr 0 (blockAt (imageIn b) k .times))) (drop (suc k) (imageIn b .blocks)))
 
-pub turn-at : (skip k : ℕ) (b : List ℕ) → Bytes b → Opened b → k < length (imageIn b .blocks) → Turn skip k b
-turn-at skip k b y o h = record { any = any-time k b y o h; small = table-small b y o; count = joined-count skip k (imageIn b .blocks) h }
+pub turn-at : (end : Option ℕ) (k : ℕ) (b : List ℕ) → Bytes b → Opened b → k < length (imageIn b .blocks) → Turn end k b
+turn-at end k b y o h = record {
+  any = any-time k b y o h;
+  few = shared-few end (blockAt (imageIn b) k .times);
+  small = table-small b y o;
+  count = joined-count end k (imageIn b .blocks) h (blockAt (imageIn b) k .times) refl;
+}
 
 -- ---- a turn over a block's times
 

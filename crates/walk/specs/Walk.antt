@@ -6,8 +6,10 @@ use mathlib.Core.Path.{_≡_}
 use mathlib.Core.Bool.{Bool, true}
 use mathlib.Core.List.{List, [], _∷_, _++_}
 use mathlib.Core.Option.{Option, some, none}
+use lib.Dec.{eqb}
 use lib.ListN.{length, take, drop}
 use Rattle.lists.specs.Choice.{pick, isSome}
+use Rattle.lists.specs.Last.{lastOr}
 use Rattle.stream.specs.Entries.{Entry}
 use Rattle.image.specs.Block.{Part, Block, dataOf, blockSize}
 use Rattle.image.specs.Head.{headSize}
@@ -79,11 +81,23 @@ pub record PartHere (from to top n g : ℕ) (b : List ℕ) : Type 0 where
   pub begin : from ≡ streamPlace (imageIn b) n g
   pub end : partThere (imageIn b) n g ≡ true → to ≡ partPlace (imageIn b) n (suc g)
 
--- the times that blocks add to the combined table: those of the first one without its first `skip`, those of each later one without the
--- first
-unfoldable pub addedTimes : (skip : ℕ) → List (Block (List Entry)) → List ℕ
-addedTimes skip [] = []
-addedTimes skip (y ∷ ys) = drop skip (y .times) ++ addedTimes 1 ys
+-- ---- the combined table
+
+-- its last time, if it has one
+abbrev pub lastTime : List ℕ → Option ℕ
+lastTime [] = none
+lastTime (x ∷ l) = some (lastOr x l)
+
+-- how many of a block's times a table that ends with `end`, if it has a time, has already: the first, where it is that end
+abbrev pub sharedTimes : (end : Option ℕ) → (times : List ℕ) → ℕ
+sharedTimes none ts = 0
+sharedTimes (some t) [] = 0
+sharedTimes (some t) (u ∷ ts) = pick (eqb u t) 1 0
+
+-- the times that blocks add to such a table
+unfoldable pub addedTimes : (end : Option ℕ) → List (Block (List Entry)) → List ℕ
+addedTimes end [] = []
+addedTimes end (y ∷ ys) = drop (sharedTimes end (y .times)) (y .times) ++ addedTimes (some (lastOr 0 (y .times))) ys
 
 -- some block begins there, and its times without the first `skip` fit into a list of `room` numbers from a place on
 abbrev pub TimesFit : (at skip from room : ℕ) → List ℕ → Type 0

@@ -5,6 +5,7 @@ use numbers::little_endian::get_u64;
 ghost use mathlib.Core.Path.{_≡_};
 ghost use Prim.Native.Nat.{ℕ, suc, _<_, _≤_};
 ghost use lib.ListN.{length, getD};
+ghost use Rattle.lists.specs.Last.{lastOr};
 ghost use Rattle.loaded.specs.Opener.{blockAt};
 ghost use Rattle.walk.specs.Walk.{Opened, imageIn, blockPlace, BlockHere, SomeBlock, TimeHere};
 
@@ -39,6 +40,15 @@ pub fn time_at(image: &[u8], at: usize, i: u32) -> u64
 {
     let signals = signal_count(image) as usize;
     get_u64(image, at + 12 + 4 * signals + 8 * (i as usize))
+}
+
+// A block's last time.
+pub fn last_time(image: &[u8], at: usize) -> u64
+    requires { ⌜ Opened (now image) × SomeBlock at (now image) ⌝ }
+    ensures { λ r. ⌜ ((n : ℕ) → BlockHere n at (now (image .entry)) → r ≡ lastOr 0 (blockAt (imageIn (now (image .entry))) n .times)) ⌝ }
+{
+    let held = times_in(image, at);
+    time_at(image, at, held - 1)
 }
 
 // Where a block begins, by its number from 0; at the number of blocks, where the image ends.

@@ -15,6 +15,14 @@ pub fn signal_count(image: &[u8]) -> u32
     get_u32(image, 0)
 }
 
+// B: how many times a block holds at most.
+pub fn block_limit(image: &[u8]) -> u32
+    requires { ⌜ Opened (now image) ⌝ }
+    ensures { λ r. ⌜ r ≡ imageIn (now (image .entry)) .limit ⌝ }
+{
+    get_u32(image, 4)
+}
+
 // How many blocks there are.
 pub fn block_count(image: &[u8]) -> u32
     requires { ⌜ Opened (now image) ⌝ }

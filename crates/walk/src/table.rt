@@ -1,5 +1,6 @@
 // The combined table of an accepted image.
 use crate::block::first_block;
+use crate::block::last_time;
 use crate::block::next_block;
 use crate::block::time_at;
 use crate::block::times_in;
@@ -10,10 +11,26 @@ ghost use mathlib.Core.List.{[]};
 ghost use Prim.Native.Nat.{ℕ, _+_, _-_, _≤_};
 ghost use lib.ListN.{length, drop};
 ghost use lib.Seq.{sets};
+ghost use Rattle.codec.specs.Ends.{endOf};
 ghost use Rattle.loaded.specs.Opener.{blockAt};
 ghost use Rattle.loaded.specs.Loading.{tableFrom};
 ghost use Rattle.loaded.specs.Reader.{tableReply, tableAfter, tableIn};
-ghost use Rattle.walk.specs.Walk.{Opened, imageIn, BlockHere, TimesFit};
+ghost use Rattle.walk.specs.Walk.{Opened, imageIn, BlockHere, SomeBlock, TimesFit, sharedTimes};
+
+// How many of a block's times the table before it has already; `later` says that a block with the last time `end` came before. It is 1 if
+// the block starts at that end.
+pub fn shared(image: &[u8], at: usize, later: bool, end: u64) -> u32
+    requires { ⌜ Opened (now image) × SomeBlock at (now image) ⌝ }
+    ensures { λ r. ⌜ ((n : ℕ) → BlockHere n at (now (image .entry)) → r ≡ sharedTimes (endOf later end) (blockAt (imageIn (now (image .entry))) n .times)) ⌝ }
+{
+    if !later {
+        return 0;
+    }
+    if time_at(image, at, 0) == end {
+        return 1;
+    }
+    0
+}
 
 // How many times the combined table has.
 pub fn table_length(image: &[u8]) -> u32
@@ -22,13 +39,15 @@ pub fn table_length(image: &[u8]) -> u32
 {
     let blocks = block_count(image);
     let mut at = first_block(image);
-    let mut skip: u32 = 0;
+    let mut later = false;
+    let mut end: u64 = 0;
     let mut n: u32 = 0;
     let mut k: u32 = 0;
     while k < blocks {
-        n = n + (times_in(image, at) - skip);
+        n = n + (times_in(image, at) - shared(image, at, later, end));
+        end = last_time(image, at);
+        later = true;
         at = next_block(image, at);
-        skip = 1;
         k += 1;
     }
     n
@@ -57,13 +76,16 @@ fn put_table(image: &[u8], out: &mut [u64])
 {
     let blocks = block_count(image);
     let mut at = first_block(image);
-    let mut skip: u32 = 0;
+    let mut later = false;
+    let mut end: u64 = 0;
     let mut p: usize = 0;
     let mut k: u32 = 0;
     while k < blocks {
+        let skip = shared(image, at, later, end);
         p = put_times(image, at, skip, out, p);
+        end = last_time(image, at);
+        later = true;
         at = next_block(image, at);
-        skip = 1;
         k += 1;
     }
 }

@@ -43,26 +43,23 @@ add-are-parts-2 c = search needs
 sub-are-parts : tie.Need-sub-are-parts
 sub-are-parts c = search needs
 
-first-index-requires : tie.Need-first-index-requires
-first-index-requires c κs = search needs
-
 are-parts-requires : tie.Need-are-parts-requires
 are-parts-requires c κs = search needs
 
-add-t22 : tie.Need-add-t22
-add-t22 c = search needs
+add-t20 : tie.Need-add-t20
+add-t20 c = search needs
 
 returns : tie.Need-returns
-returns c = let a = c .before .before .before .before .before .before .before .before .before .args in body-parts (a .signals) (a .size) (a .times) (a .s .now) (a .at) (a .later) (a .end) (a .tops .now) _ (c .before .before .before .before .before .before .times-at .ensures) _ _ (a .at + (12 + 4 * a .signals + 8 * a .times)) (a .size - (12 + 4 * a .signals + 8 * a .times)) true (c .before .before .before .before .last .given .1) (c .before .before .first-index .ensures) (omega arith) (omega arith) (sym (c .if1 .taken) ∙ c .before .are-parts .ensures)
+returns c = let a = c .before .before .before .before .before .before .before .args in body-parts (a .signals) (a .size) (a .times) (a .s .now) (a .at) (a .later) (a .end) _ (c .before .before .before .before .before .times-at .ensures) _ (a .at + (12 + 4 * a .signals + 8 * a .times)) (a .size - (12 + 4 * a .signals + 8 * a .times)) true (c .before .before .before .last .given .1) (omega arith) (omega arith) (sym (c .if1 .taken) ∙ c .before .are-parts .ensures)
 
 enum-told : tie.Need-enum-told
 enum-told c = search needs
 
 returns-2 : tie.Need-returns-2
-returns-2 c = let a = c .before .before .before .before .before .before .before .before .before .args in body-parts (a .signals) (a .size) (a .times) (a .s .now) (a .at) (a .later) (a .end) (a .tops .now) _ (c .before .before .before .before .before .before .times-at .ensures) _ _ (a .at + (12 + 4 * a .signals + 8 * a .times)) (a .size - (12 + 4 * a .signals + 8 * a .times)) false (c .before .before .before .before .last .given .1) (c .before .before .first-index .ensures) (omega arith) (omega arith) (sym (c .if1 .left) ∙ c .before .are-parts .ensures)
+returns-2 c = let a = c .before .before .before .before .before .before .before .args in body-parts (a .signals) (a .size) (a .times) (a .s .now) (a .at) (a .later) (a .end) _ (c .before .before .before .before .before .times-at .ensures) _ (a .at + (12 + 4 * a .signals + 8 * a .times)) (a .size - (12 + 4 * a .signals + 8 * a .times)) false (c .before .before .before .last .given .1) (omega arith) (omega arith) (sym (c .if1 .left) ∙ c .before .are-parts .ensures)
 
 returns-3 : tie.Need-returns-3
-returns-3 c = body-wrong _ _ _ _ _ _ _ _ _ (c .before .before .times-at .ensures) (c .enum-told .given .1)
+returns-3 c = body-wrong _ _ _ _ _ _ _ _ (c .before .before .times-at .ensures) (c .enum-told .given .1)
 
 pub body-at-spec : {M : Type 1} → statement M
 body-at-spec =
@@ -80,9 +77,8 @@ body-at-spec =
     add-are-parts
     add-are-parts-2
     sub-are-parts
-    first-index-requires
     are-parts-requires
-    add-t22
+    add-t20
     returns
     enum-told
     returns-2

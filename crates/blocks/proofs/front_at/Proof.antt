@@ -1,6 +1,6 @@
 use native.Mathlib.Omega.{arith}
 use borrow.Author.Tests.{not-true, not-false}
-use Rattle.blocks.proofs.TestLaws.{front-room, front-signals, front-size, front-filled, front-long, front-yes}
+use Rattle.blocks.proofs.TestLaws.{front-room, front-signals, front-size, front-times, front-long, front-yes}
 use borrow.Author.Needs.{needs}
 use Rattle.blocks.proofs.front_at.Statement.{statement}
 use Rattle.blocks.proofs.front_at.Tie as tie
@@ -15,7 +15,7 @@ add-if1 : tie.Need-add-if1
 add-if1 c = search needs
 
 returns : tie.Need-returns
-returns c = front-room _ _ _ _ _ (c .before .before .pre .0) (c .if1 .taken)
+returns c = front-room _ _ _ _ (c .before .before .pre .0) (c .if1 .taken)
 
 get-u32-requires : tie.Need-get-u32-requires
 get-u32-requires c κs = search needs
@@ -39,7 +39,7 @@ cast-if2 : tie.Need-cast-if2
 cast-if2 c = search needs
 
 returns-2 : tie.Need-returns-2
-returns-2 c = front-signals _ _ _ _ _ (c .before .before .before .before .before .before .pre .0) (c .before .before .before .before .if1 .left) _ _ _ (c .before .before .get-u322 .ensures) (c .before .get-u323 .ensures) (c .before .before .before .get-u32 .ensures) (c .if2 .taken)
+returns-2 c = front-signals _ _ _ _ (c .before .before .before .before .before .before .pre .0) (c .before .before .before .before .if1 .left) _ _ _ (c .before .before .get-u322 .ensures) (c .before .get-u323 .ensures) (c .before .before .before .get-u32 .ensures) (c .if2 .taken)
 
 mul-if3 : tie.Need-mul-if3
 mul-if3 c = search needs
@@ -57,22 +57,22 @@ add-if3-2 : tie.Need-add-if3-2
 add-if3-2 c = search needs
 
 returns-3 : tie.Need-returns-3
-returns-3 c = front-size _ _ _ _ _ (c .before .before .before .before .before .before .before .pre .0) (c .before .before .before .before .before .if1 .left) _ _ _ (c .before .before .before .get-u322 .ensures) (c .before .before .get-u323 .ensures) (c .before .before .before .before .get-u32 .ensures) (c .before .if2 .left) (omega arith)
+returns-3 c = front-size _ _ _ _ (c .before .before .before .before .before .before .before .pre .0) (c .before .before .before .before .before .if1 .left) _ _ _ (c .before .before .before .get-u322 .ensures) (c .before .before .get-u323 .ensures) (c .before .before .before .before .get-u32 .ensures) (c .before .if2 .left) (omega arith)
 
-filled-requires : tie.Need-filled-requires
-filled-requires c κs = search needs
+times-fit-requires : tie.Need-times-fit-requires
+times-fit-requires c κs = search needs
 
 returns-4 : tie.Need-returns-4
-returns-4 c = front-filled _ _ _ _ _ (c .before .before .before .before .before .before .before .before .before .pre .0) (c .before .before .before .before .before .before .before .if1 .left) _ _ _ (c .before .before .before .before .before .get-u322 .ensures) (c .before .before .before .before .get-u323 .ensures) (c .before .before .before .before .before .before .get-u32 .ensures) (c .before .before .before .if2 .left) (omega arith) _ (c .before .filled .ensures) (not-true _ (c .if4 .taken))
+returns-4 c = front-times _ _ _ _ (c .before .before .before .before .before .before .before .before .before .pre .0) (c .before .before .before .before .before .before .before .if1 .left) _ _ _ (c .before .before .before .before .before .get-u322 .ensures) (c .before .before .before .before .get-u323 .ensures) (c .before .before .before .before .before .before .get-u32 .ensures) (c .before .before .before .if2 .left) (omega arith) _ (c .before .times-fit .ensures) (not-true _ (c .if4 .taken))
 
 sub-if5 : tie.Need-sub-if5
 sub-if5 c = search needs
 
 returns-5 : tie.Need-returns-5
-returns-5 c = front-long _ _ _ _ _ (c .before .before .before .before .before .before .before .before .before .before .pre .0) (c .before .before .before .before .before .before .before .before .if1 .left) _ _ _ (c .before .before .before .before .before .before .get-u322 .ensures) (c .before .before .before .before .before .get-u323 .ensures) (c .before .before .before .before .before .before .before .get-u32 .ensures) (c .before .before .before .before .if2 .left) (omega arith) _ (c .before .before .filled .ensures) (not-false _ (c .before .if4 .left)) (c .if5 .taken)
+returns-5 c = front-long _ _ _ _ (c .before .before .before .before .before .before .before .before .before .before .pre .0) (c .before .before .before .before .before .before .before .before .if1 .left) _ _ _ (c .before .before .before .before .before .before .get-u322 .ensures) (c .before .before .before .before .before .get-u323 .ensures) (c .before .before .before .before .before .before .before .get-u32 .ensures) (c .before .before .before .before .if2 .left) (omega arith) _ (c .before .before .times-fit .ensures) (not-false _ (c .before .if4 .left)) (c .if5 .taken)
 
 returns-6 : tie.Need-returns-6
-returns-6 c = front-yes _ _ _ _ _ (c .before .before .before .before .before .before .before .before .before .before .pre .0) (c .before .before .before .before .before .before .before .before .if1 .left) _ _ _ (c .before .before .before .before .before .before .get-u322 .ensures) (c .before .before .before .before .before .get-u323 .ensures) (c .before .before .before .before .before .before .before .get-u32 .ensures) (c .before .before .before .before .if2 .left) (omega arith) _ (c .before .before .filled .ensures) (not-false _ (c .before .if4 .left)) (c .if5 .left)
+returns-6 c = front-yes _ _ _ _ (c .before .before .before .before .before .before .before .before .before .before .pre .0) (c .before .before .before .before .before .before .before .before .if1 .left) _ _ _ (c .before .before .before .before .before .before .get-u322 .ensures) (c .before .before .before .before .before .get-u323 .ensures) (c .before .before .before .before .before .before .before .get-u32 .ensures) (c .before .before .before .before .if2 .left) (omega arith) _ (c .before .before .times-fit .ensures) (not-false _ (c .before .if4 .left)) (c .if5 .left)
 
 pub front-at-spec : {M : Type 1} → statement M
 front-at-spec =
@@ -96,7 +96,7 @@ front-at-spec =
     mul-if3-2
     add-if3-2
     returns-3
-    filled-requires
+    times-fit-requires
     returns-4
     sub-if5
     returns-5

@@ -9,13 +9,13 @@ use Rattle.parts.proofs.are_parts.Statement.{statement}
 use Rattle.parts.proofs.are_parts.Tie as tie
 
 abbrev Inv-loop : tie.InvT-loop
-Inv-loop s kinds offsets base n count tops times least from₀ i₀ from i = (i ≤ count) × (from ≤ n) × (startAt s kinds offsets base n count tops times least i ≡ From from)
+Inv-loop s kinds offsets base n count times from₀ i₀ from i = (i ≤ count) × (from ≤ n) × (startAt s kinds offsets base n count times i ≡ From from)
 
 abbrev μ-loop : tie.MeasureT-loop
-μ-loop s kinds offsets base n count tops times least from₀ i₀ from i = i
+μ-loop s kinds offsets base n count times from₀ i₀ from i = i
 
 loop-holds : tie.Need-loop-holds Inv-loop μ-loop
-loop-holds c = (omega arith, omega arith, start-none _ _ _ _ _ _ _ _ _ _ refl)
+loop-holds c = (omega arith, omega arith, start-none _ _ _ _ _ _ _ _ refl)
 
 sub-i : tie.Need-sub-i Inv-loop μ-loop
 sub-i c = omega arith
@@ -31,9 +31,6 @@ get-u32-requires c κs = omega arith
 
 kind-from-requires : tie.Need-kind-from-requires Inv-loop μ-loop
 kind-from-requires c κs = tt
-
-shared-slice-read-before : tie.Need-shared-slice-read-before Inv-loop μ-loop
-shared-slice-read-before c = omega arith
 
 mul-get-u32-2 : tie.Need-mul-get-u32-2 Inv-loop μ-loop
 mul-get-u32-2 c = omega arith
@@ -54,16 +51,16 @@ loop-less : tie.Need-loop-less Inv-loop μ-loop
 loop-less c = omega arith
 
 loop-again : tie.Need-loop-again Inv-loop μ-loop
-loop-again c = let l = c .before .before .before .before .before .before .before .before .before .loop in let o = c .before .before .before .one-part .ensures in let w = one-lower _ _ _ _ _ _ _ _ _ o (c .before .start .given .1) in (omega arith, omega arith, turn-is _ _ _ _ _ _ _ _ _ _ _ _ _ _ _ (omega arith) (omega arith) (l .inv .2) (c .before .before .before .before .before .before .kind-from .ensures ∙ ap kindFrom (c .before .before .before .before .before .before .before .get-u32 .ensures)) refl (c .before .before .before .before .get-u322 .ensures) o ∙ c .before .start .given .1)
+loop-again c = let l = c .before .before .before .before .before .before .before .before .loop in let o = c .before .before .before .one-part .ensures in let w = one-lower _ _ _ _ _ _ _ o (c .before .start .given .1) in (omega arith, omega arith, turn-is _ _ _ _ _ _ _ _ _ _ _ _ (omega arith) (omega arith) (l .inv .2) (c .before .before .before .before .before .kind-from .ensures ∙ ap kindFrom (c .before .before .before .before .before .before .get-u32 .ensures)) (c .before .before .before .before .get-u322 .ensures) o ∙ c .before .start .given .1)
 
 enum-told : tie.Need-enum-told Inv-loop μ-loop
 enum-told c = search needs
 
 returns : tie.Need-returns Inv-loop μ-loop
-returns c = let l = c .before .before .before .before .before .before .before .before .loop in are-wrong _ _ _ _ _ _ _ _ _ (wrong-all _ _ _ _ _ _ _ _ _ (l .i - 1) (omega arith) (turn-is _ _ _ _ _ _ _ _ _ _ _ _ _ _ _ (omega arith) (omega arith) (l .inv .2) (c .before .before .before .before .before .kind-from .ensures ∙ ap kindFrom (c .before .before .before .before .before .before .get-u32 .ensures)) refl (c .before .before .before .get-u322 .ensures) (c .before .before .one-part .ensures) ∙ c .enum-told .given .1))
+returns c = let l = c .before .before .before .before .before .before .before .loop in are-wrong _ _ _ _ _ _ _ (wrong-all _ _ _ _ _ _ _ (l .i - 1) (omega arith) (turn-is _ _ _ _ _ _ _ _ _ _ _ _ (omega arith) (omega arith) (l .inv .2) (c .before .before .before .before .kind-from .ensures ∙ ap kindFrom (c .before .before .before .before .before .get-u32 .ensures)) (c .before .before .before .get-u322 .ensures) (c .before .before .one-part .ensures) ∙ c .enum-told .given .1))
 
 returns-2 : tie.Need-returns-2 Inv-loop μ-loop
-returns-2 c = are-from _ _ _ _ _ _ _ _ _ _ _ (omega arith) (c .before .loop .inv .2)
+returns-2 c = are-from _ _ _ _ _ _ _ _ _ (omega arith) (c .before .loop .inv .2)
 
 pub are-parts-spec : {M : Type 1} → statement M
 are-parts-spec =
@@ -77,7 +74,6 @@ are-parts-spec =
     add-get-u32
     get-u32-requires
     kind-from-requires
-    shared-slice-read-before
     mul-get-u32-2
     add-get-u32-2
     get-u32-requires-2

@@ -1,5 +1,5 @@
 use Rattle.recording.specs.Refusals.{stateTests}
-use Rattle.refusals.proofs.TestsLaws.{tests}
+use Rattle.recording.proofs.TestsLaws.{tests}
 use borrow.Author.Needs.{needs}
 use Rattle.refusals.proofs.counts_refusal.Statement.{statement}
 use Rattle.refusals.proofs.counts_refusal.Tie as tie

@@ -1,5 +1,5 @@
 use Rattle.recording.specs.Refusals.{startTests}
-use Rattle.refusals.proofs.TestsLaws.{tests}
+use Rattle.recording.proofs.TestsLaws.{tests}
 use borrow.Author.Needs.{needs}
 use Rattle.refusals.proofs.start_refusal.Statement.{statement}
 use Rattle.refusals.proofs.start_refusal.Tie as tie

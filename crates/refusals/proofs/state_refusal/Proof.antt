@@ -2,7 +2,7 @@ use mathlib.Core.Path.{sym, _∙_}
 use native.Mathlib.Omega.{arith}
 use Rattle.recording.specs.Refusals.{stateTests}
 use Rattle.refusals.proofs.StateLaws.{limits-past}
-use Rattle.refusals.proofs.TestsLaws.{tests}
+use Rattle.recording.proofs.TestsLaws.{tests}
 use borrow.Author.Needs.{needs}
 use Rattle.refusals.proofs.state_refusal.Statement.{statement}
 use Rattle.refusals.proofs.state_refusal.Tie as tie

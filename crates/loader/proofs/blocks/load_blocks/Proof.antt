@@ -1,24 +1,21 @@
 -- The loop's invariant: the output holds the entries of the blocks before, and the blocks that are left make of these what all blocks give.
 use Prim.Native.Nat.{ℕ, _+_, _-_, _<_}
-use mathlib.Core.Path.{_≡_, ap, _∙_}
+use mathlib.Core.Path.{refl, ap}
 use native.Mathlib.Omega.{arith}
 use lib.ListN.{length}
 use Rattle.value.specs.Class.{classNumber}
-use Rattle.loaded.specs.Opener.{blockAt}
 use Rattle.walk.specs.Walk.{imageIn, BlockHere}
-use Rattle.loader.specs.Blocks.{baseOf}
-use Rattle.loader.proofs.BlockLaws.{base-small}
-use Rattle.loader.proofs.BlocksLaws.{Passing, passing-first, passing-sizes, next-room, next-class, next-times, passing-on, passed}
+use Rattle.loader.proofs.BlocksLaws.{Passing, passing-first, passing-sizes, shared-small, base-early, next-room, next-class, next-times, passing-on, passed}
 use borrow.Author.Needs.{needs}
 use Rattle.loader.proofs.blocks.load_blocks.Statement.{statement}
 use Rattle.loader.proofs.blocks.load_blocks.Tie as tie
 
 abbrev Inv-loop : tie.InvT-loop
-Inv-loop image signal class write index₀ bytes₀ blocks at₀ number₀ times₀ state₀ index bytes at number times state =
-    Passing image signal (classNumber class) write index₀ bytes₀ number at times state index bytes
+Inv-loop image signal class write index₀ bytes₀ blocks at₀ number₀ times₀ later₀ end₀ state₀ index bytes at number times later end state =
+    Passing image signal (classNumber class) write index₀ bytes₀ number at times later end state index bytes
 
 abbrev μ-loop : tie.MeasureT-loop
-μ-loop image signal class write index₀ bytes₀ blocks at₀ number₀ times₀ state₀ index bytes at number times state = blocks - number
+μ-loop image signal class write index₀ bytes₀ blocks at₀ number₀ times₀ later₀ end₀ state₀ index bytes at number times later end state = blocks - number
 
 -- there is another block
 below : (t : tie.In-loop Inv-loop μ-loop) → t .before .loop .number < length (imageIn (t .before .before .before .before .before .before .before .before .args .image .now) .blocks)
@@ -44,33 +41,44 @@ loop-holds c =
     passing-first (a .image .now) (a .signal) (classNumber (a .class)) (a .write) (a .index .now) (a .bytes .now) (f .first-block .result) (c .nothing-kept .result)
     (λ j. f .before .before .before .before .shared-slice-known .given j .fits) (f .before .before .before .before .before .pre .0) (f .first-block .ensures) (c .nothing-kept .ensures)
 
-load-block-requires : tie.Need-load-block-requires Inv-loop μ-loop
-load-block-requires c κs =
-    let t = c .before .before in
+shared-requires : tie.Need-shared-requires Inv-loop μ-loop
+shared-requires c κs = let t = c in let f = t .before .before .before in (f .before .before .before .before .before .pre .0, (t .before .loop .number, found t))
+
+sub-base : tie.Need-sub-base Inv-loop μ-loop
+sub-base c =
+    let t = c .before in
     let l = t .before .loop in
     let f = t .before .before .before in
-    let a = f .before .before .before .before .before .args in (
+    let a = f .before .before .before .before .before .args in
+    shared-small (a .image .now) (a .signal) (classNumber (a .class)) (a .write) (a .index .now) (a .bytes .now) (l .number) (l .at) (l .times) (l .later) (l .end) (l .state) (l .index) (l .bytes)
+    (λ j. f .before .before .before .before .shared-slice-known .given j .fits) (f .before .before .before .before .before .pre .0) (l .inv) (below t) _ (c .shared .ensures (l .number) (found t))
+
+load-block-requires : tie.Need-load-block-requires Inv-loop μ-loop
+load-block-requires c κs =
+    let t = c .before .before .before in
+    let l = t .before .loop in
+    let f = t .before .before .before in
+    let a = f .before .before .before .before .before .args in
+    let e = c .before .before .shared .ensures (l .number) (found t) in (
       (
         f .before .before .before .before .before .pre .0,
-        found t,
         l .inv .reads,
-        next-class (a .image .now) (a .signal) (classNumber (a .class)) (a .write) (a .index .now) (a .bytes .now) (l .number) (l .at) (l .times) (l .state) (l .index) (l .bytes)
-            (λ j. f .before .before .before .before .shared-slice-known .given j .fits) (f .before .before .before .before .before .pre .0) (l .inv) (below t) (f .before .before .before .before .before .pre .1),
+        base-early (a .image .now) (a .signal) (classNumber (a .class)) (a .write) (a .index .now) (a .bytes .now) (l .number) (l .at) (l .times) (l .later) (l .end) (l .state) (l .index) (l .bytes)
+            (λ j. f .before .before .before .before .shared-slice-known .given j .fits) (f .before .before .before .before .before .pre .0) (l .inv) (below t) _ _ e refl,
+        l .inv .few,
       ),
       (
-        l .inv .many,
-        l .inv .early,
-        l .inv .few,
-        next-room (a .image .now) (a .signal) (classNumber (a .class)) (a .write) (a .index .now) (a .bytes .now) (l .number) (l .at) (l .times) (l .state) (l .index) (l .bytes)
-            (λ j. f .before .before .before .before .shared-slice-known .given j .fits) (f .before .before .before .before .before .pre .0) (l .inv) (below t) (f .before .before .before .before .before .pre .2),
+        l .number,
+        found t,
+        next-class (a .image .now) (a .signal) (classNumber (a .class)) (a .write) (a .index .now) (a .bytes .now) (l .number) (l .at) (l .times) (l .later) (l .end) (l .state) (l .index) (l .bytes)
+            (λ j. f .before .before .before .before .shared-slice-known .given j .fits) (f .before .before .before .before .before .pre .0) (l .inv) (below t) (f .before .before .before .before .before .pre .1),
+        next-room (a .image .now) (a .signal) (classNumber (a .class)) (a .write) (a .index .now) (a .bytes .now) (l .number) (l .at) (l .times) (l .later) (l .end) (l .state) (l .index) (l .bytes)
+            (λ j. f .before .before .before .before .shared-slice-known .given j .fits) (f .before .before .before .before .before .pre .0) (l .inv) (below t) _ _ e refl (f .before .before .before .before .before .pre .2),
       ),
     )
 
-table-base-requires : tie.Need-table-base-requires Inv-loop μ-loop
-table-base-requires c κs = c .before .before .before .before .before .before .before .before .loop .inv .many
-
 times-in-requires : tie.Need-times-in-requires Inv-loop μ-loop
-times-in-requires c κs = (c .before .before .before .before .before .before .before .before .before .before .before .before .before .before .before .before .pre .0, (c .before .before .before .before .before .before .before .before .before .loop .number, found (c .before .before .before .before .before .before .before .before)))
+times-in-requires c κs = let t = c .before .before .before .before .before .before .before .before in let f = t .before .before .before in (f .before .before .before .before .before .pre .0, (t .before .loop .number, found t))
 
 add-times : tie.Need-add-times Inv-loop μ-loop
 add-times c =
@@ -78,46 +86,49 @@ add-times c =
     let l = t .before .loop in
     let f = t .before .before .before in
     let a = f .before .before .before .before .before .args in
-    let n = next-times (a .image .now) (a .signal) (classNumber (a .class)) (a .write) (a .index .now) (a .bytes .now) (l .number) (l .at) (l .times) (l .state) (l .index) (l .bytes)
+    let n = next-times (a .image .now) (a .signal) (classNumber (a .class)) (a .write) (a .index .now) (a .bytes .now) (l .number) (l .at) (l .times) (l .later) (l .end) (l .state) (l .index) (l .bytes)
     (λ j. f .before .before .before .before .shared-slice-known .given j .fits) (f .before .before .before .before .before .pre .0) (l .inv) (below t) in
-    let m = c .times-in .ensures (l .number) (found t) in
-    omega (arith, c .before .table-base .ensures, base-small (l .number) (l .times), l .inv .early, n .0, n .1)
+    let e = base-early (a .image .now) (a .signal) (classNumber (a .class)) (a .write) (a .index .now) (a .bytes .now) (l .number) (l .at) (l .times) (l .later) (l .end) (l .state) (l .index) (l .bytes)
+    (λ j. f .before .before .before .before .shared-slice-known .given j .fits) (f .before .before .before .before .before .pre .0) (l .inv) (below t) _ _ (c .before .before .before .before .before .before .before .before .shared .ensures (l .number) (found t)) refl in
+    omega (arith, c .times-in .ensures (l .number) (found t), e, n .0, n .1)
+
+last-time-requires : tie.Need-last-time-requires Inv-loop μ-loop
+last-time-requires c κs = let t = c .before .before .before .before .before .before .before .before .before in let f = t .before .before .before in (f .before .before .before .before .before .pre .0, (t .before .loop .number, found t))
 
 next-block-requires : tie.Need-next-block-requires Inv-loop μ-loop
-next-block-requires c κs = (c .before .before .before .before .before .before .before .before .before .before .before .before .before .before .before .before .before .pre .0, (c .before .before .before .before .before .before .before .before .before .before .loop .number, found (c .before .before .before .before .before .before .before .before .before)))
+next-block-requires c κs = let t = c .before .before .before .before .before .before .before .before .before .before in let f = t .before .before .before in (f .before .before .before .before .before .pre .0, (t .before .loop .number, found t))
 
 add-number : tie.Need-add-number Inv-loop μ-loop
-add-number c = omega (arith, c .before .before .before .before .before .before .before .before .before .before .loop-test .taken)
+add-number c = omega (arith, c .before .before .before .before .before .before .before .before .before .before .before .loop-test .taken)
 
 loop-less : tie.Need-loop-less Inv-loop μ-loop
-loop-less c = omega (arith, c .before .before .before .before .before .before .before .before .before .before .loop-test .taken)
+loop-less c = omega (arith, c .before .before .before .before .before .before .before .before .before .before .before .loop-test .taken)
 
 loop-again : tie.Need-loop-again Inv-loop μ-loop
 loop-again c =
-    let t = c .before .before .before .before .before .before .before .before .before .before in
+    let t = c .before .before .before .before .before .before .before .before .before .before .before in
     let l = t .before .loop in
     let f = t .before .before .before in
     let a = f .before .before .before .before .before .args in
-    let e = c .before .before .before .before .before .before .before .load-block .ensures in
     let h = found t in
-    let m = c .before .times-in .ensures (l .number) h in
-    let sum : c .before .before .table-base .result + c .before .times-in .result ≡ baseOf (l .number) (l .times) + length (blockAt (imageIn (a .image .now)) (l .number) .times) =
-    ap (λ (n : ℕ). n + c .before .times-in .result) (c .before .before .table-base .ensures) ∙ ap (λ (n : ℕ). baseOf (l .number) (l .times) + n) m in
-    passing-on (a .image .now) (a .signal) (classNumber (a .class)) (a .write) (a .index .now) (a .bytes .now) (l .number) (l .at) (l .times) (l .state) (l .index) (l .bytes)
-    (λ j. f .before .before .before .before .shared-slice-known .given j .fits) (f .before .before .before .before .before .pre .0) (l .inv) (below t)
-    _ _ (c .before .before .before .before .before .before .before .load-block .result) _ _ sum (c .next-block .ensures (l .number) h) (e .0) (e .1) (e .2)
+    let s = c .before .before .before .before .before .before .before .before .before .before .shared in
+    let e = c .before .before .before .before .before .before .before .load-block .ensures in
+    passing-on (a .image .now) (a .signal) (classNumber (a .class)) (a .write) (a .index .now) (a .bytes .now) (l .number) (l .at) (l .times) (l .later) (l .end) (l .state) (l .index) (l .bytes)
+    (λ j. f .before .before .before .before .shared-slice-known .given j .fits) (f .before .before .before .before .before .pre .0) (l .inv) (below t) (s .result) (l .times - s .result) (s .ensures (l .number) h) refl
+    _ _ _ (c .before .before .before .before .before .before .before .load-block .result) _ _ (ap (λ (n : ℕ). l .times - s .result + n) (c .before .before .times-in .ensures (l .number) h)) (c .next-block .ensures (l .number) h)
+    (c .before .last-time .ensures (l .number) h) (e .0) (e .1 (l .number) h .0) (e .1 (l .number) h .1)
 
 same-length : tie.Need-same-length Inv-loop μ-loop
 same-length c =
     let l = c .before .loop in
     let a = c .before .before .before .before .before .before .before .before .args in
-    passing-sizes (a .image .now) (a .signal) (classNumber (a .class)) (a .write) (a .index .now) (a .bytes .now) (l .number) (l .at) (l .times) (l .state) (l .index) (l .bytes) (l .inv) .0
+    passing-sizes (a .image .now) (a .signal) (classNumber (a .class)) (a .write) (a .index .now) (a .bytes .now) (l .number) (l .at) (l .times) (l .later) (l .end) (l .state) (l .index) (l .bytes) (l .inv) .0
 
 same-length-2 : tie.Need-same-length-2 Inv-loop μ-loop
 same-length-2 c =
     let l = c .before .loop in
     let a = c .before .before .before .before .before .before .before .before .args in
-    passing-sizes (a .image .now) (a .signal) (classNumber (a .class)) (a .write) (a .index .now) (a .bytes .now) (l .number) (l .at) (l .times) (l .state) (l .index) (l .bytes) (l .inv) .1
+    passing-sizes (a .image .now) (a .signal) (classNumber (a .class)) (a .write) (a .index .now) (a .bytes .now) (l .number) (l .at) (l .times) (l .later) (l .end) (l .state) (l .index) (l .bytes) (l .inv) .1
 
 returns : tie.Need-returns Inv-loop μ-loop
 returns c =
@@ -125,7 +136,7 @@ returns c =
     let f = c .before .before .before in
     let a = f .before .before .before .before .before .args in
     let q = f .before .block-count .ensures in
-    passed (a .image .now) (a .signal) (classNumber (a .class)) (a .write) (a .index .now) (a .bytes .now) (l .number) (l .at) (l .times) (l .state) (l .index) (l .bytes)
+    passed (a .image .now) (a .signal) (classNumber (a .class)) (a .write) (a .index .now) (a .bytes .now) (l .number) (l .at) (l .times) (l .later) (l .end) (l .state) (l .index) (l .bytes)
     (λ j. f .before .before .before .before .shared-slice-known .given j .fits) (f .before .before .before .before .before .pre .0) (l .inv) (omega arith)
 
 pub load-blocks-spec : {M : Type 1} → statement M
@@ -138,10 +149,12 @@ load-blocks-spec =
     first-block-requires
     nothing-kept-requires
     loop-holds
+    shared-requires
+    sub-base
     load-block-requires
-    table-base-requires
     times-in-requires
     add-times
+    last-time-requires
     next-block-requires
     add-number
     loop-less

@@ -1,0 +1,119 @@
+-- Images of which nothing differs have the same B and kinds, so the blocks of a join are those of both; an empty second image gives the first.
+-- Assumes nothing.
+use Prim.Native.Nat.{ℕ, _+_, _≤_}
+use mathlib.Core.Path.{_≡_, refl, ap, ap₂, _∙_}
+use mathlib.Core.Bool.{true, false, not}
+use mathlib.Core.List.{List, [], _∷_, _++_, map, append-nil}
+use mathlib.Core.Option.{Option, some, none}
+use native.Mathlib.Omega.{arith}
+use borrow.Author.Tests.{not-false, eqb-true, leb-true, le-ltb, ltb-false}
+use lib.ListN.{length, getD, drop, length-append}
+use lib.Seq.{sets}
+use lib.Dec.{ltb, eqb}
+use Rattle.lists.specs.Bytes.{Bytes}
+use Rattle.lists.specs.Same.{same}
+use Rattle.lists.proofs.ChoiceLaws.{none-holds}
+use Rattle.lists.proofs.SameLaws.{same-true}
+use Rattle.signal.specs.declared.kind.SignalEncoding.{SignalEncoding}
+use Rattle.signal.specs.declared.kind.SignalEncoding.the-variants.{BitVector, Real, Absent}
+use Rattle.signal.specs.Kind.{knownKind}
+use Rattle.image.specs.Head.{kindNumber, headSize, imageLimit}
+use Rattle.image.specs.Image.{Image, blocksBytes, imageBytes}
+use Rattle.codec.specs.Valid.{KnownKinds, Valid}
+use Rattle.codec.specs.Ends.{endAfter}
+use Rattle.codec.specs.Parse.{parse}
+use Rattle.codec.proofs.Growth.{blocks-append}
+use Rattle.codec.proofs.ImageFits.{image-size}
+use Rattle.codec.proofs.Trip.{parse-is}
+use Rattle.recording.proofs.TestsLaws.{AllFalse}
+use Rattle.joined.specs.Join.{joined, joinAfter, joinedImage, differs, noBlock, early, joinTests, joinIn, joinBy, joinOf}
+
+-- ---- the same B and kinds
+
+-- known kinds with the same number are the same
+kind-same : (k l : SignalEncoding) → knownKind k ≡ true → knownKind l ≡ true → kindNumber k ≡ kindNumber l → k ≡ l
+kind-same (BitVector v) (BitVector w) h g e = ap BitVector e
+kind-same (BitVector v) Real h g e = absurd (omega (arith, leb-true v 65536 h))
+kind-same (BitVector v) Absent h g e = absurd (omega (arith, leb-true v 65536 h))
+kind-same Real (BitVector w) h g e = absurd (omega (arith, leb-true w 65536 g))
+kind-same Real Real h g e = refl
+kind-same Real Absent h g e = absurd (omega arith)
+kind-same Absent (BitVector w) h g e = absurd (omega (arith, leb-true w 65536 g))
+kind-same Absent Real h g e = absurd (omega arith)
+kind-same Absent Absent h g e = refl
+
+kinds-same : (ks ls : List SignalEncoding) → KnownKinds ks → KnownKinds ls → map kindNumber ks ≡ map kindNumber ls → ks ≡ ls
+kinds-same [] [] h g e = refl
+kinds-same [] (l ∷ ls) h g e = absurd (omega (arith, ap length e))
+kinds-same (k ∷ ks) [] h g e = absurd (omega (arith, ap length e))
+kinds-same (k ∷ ks) (l ∷ ls) h g e =
+    ap₂ (λ (a : SignalEncoding) (b : List SignalEncoding). a ∷ b) (kind-same k l (h .0) (g .0) (ap (λ (n : List ℕ). getD n 0 0) e))
+    (kinds-same ks ls (h .1) (g .1) (ap (drop 1) e))
+
+pub record Alike (x y : Image) : Type 0 where
+  pub limit : x .limit ≡ y .limit
+  pub kinds : x .kinds ≡ y .kinds
+
+pub alike : (x y : Image) → Valid x → Valid y → differs x y ≡ false → Alike x y
+alike x y v w e =
+    let d = none-holds (not (eqb (x .limit) (y .limit))) (not (same (map kindNumber (x .kinds)) (map kindNumber (y .kinds)))) e in
+    record {
+      limit = eqb-true (x .limit) (y .limit) (not-false (eqb (x .limit) (y .limit)) (d .0));
+      kinds = kinds-same (x .kinds) (y .kinds) (v .kinds) (w .kinds) (same-true (map kindNumber (x .kinds)) (map kindNumber (y .kinds)) (not-false _ (d .1)));
+    }
+
+-- ---- the bytes of both
+
+pub joined-blocks : (x y : Image) → Alike x y → blocksBytes (x .kinds) (x .blocks ++ y .blocks) ≡ blocksBytes (x .kinds) (x .blocks) ++ blocksBytes (y .kinds) (y .blocks)
+joined-blocks x y a =
+    blocks-append (x .kinds) (x .blocks) (y .blocks)
+    ∙ ap (λ (ks : List SignalEncoding). blocksBytes (x .kinds) (x .blocks) ++ blocksBytes ks (y .blocks)) (a .kinds)
+
+-- less one head
+pub joined-size : (x y : Image) → Alike x y → length (imageBytes (joinedImage x y)) + headSize (length (y .kinds)) ≡ length (imageBytes x) + length (imageBytes y)
+joined-size x y a =
+    omega (
+      arith,
+      image-size x,
+      image-size y,
+      image-size (joinedImage x y),
+      ap length (joined-blocks x y a),
+      length-append (blocksBytes (x .kinds) (x .blocks)) (blocksBytes (y .kinds) (y .blocks)),
+    )
+
+-- ---- what a join that is not refused has passed
+
+pub record Passes (x y : Image) (most : ℕ) : Type 0 where
+  pub same : differs x y ≡ false
+  pub some-block : noBlock (x .blocks) ≡ false
+  pub in-order : early (endAfter none (x .blocks)) (y .blocks) ≡ false
+  pub few : length (imageBytes (joinedImage x y)) ≤ imageLimit
+  pub room : length (imageBytes (joinedImage x y)) ≤ most
+
+pub passes : (x y : Image) (room : ℕ) → AllFalse (joinTests x y room) → Passes x y room
+passes x y room p =
+    let n : ℕ = length (imageBytes (joinedImage x y)) in
+    let z = none-holds (ltb imageLimit n) (ltb room n) (p .1 .1 .1 .0) in
+    record { same = p .0; some-block = p .1 .0; in-order = p .1 .1 .0; few = ltb-false imageLimit n (z .0); room = ltb-false room n (z .1) }
+
+-- ---- "An empty second image changes nothing"
+
+never-early : (end : Option ℕ) → early end [] ≡ false
+never-early none = refl
+never-early (some t) = refl
+
+-- of images
+empty-joined : (x y : Image) (out : List ℕ) → differs x y ≡ false → noBlock (x .blocks) ≡ false → y .blocks ≡ [] → length (imageBytes x) ≤ imageLimit → length (imageBytes x) ≤ length out
+    → joinIn x y out ≡ joinAfter (joined (length (imageBytes x))) (sets out 0 (imageBytes x))
+unfolding joinIn
+empty-joined x y out d n e few room =
+    rw (d, n, e, never-early (endAfter none (x .blocks)), append-nil (x .blocks), le-ltb imageLimit (length (imageBytes x)) few, le-ltb (length out) (length (imageBytes x)) room) refl
+
+-- of bytes: the first is written, and its length answered
+pub empty-second-joined : (a b out : List ℕ) (x y : Image) → Bytes a → parse a ≡ some x → parse b ≡ some y → differs x y ≡ false → noBlock (x .blocks) ≡ false → y .blocks ≡ [] → length a ≤ length out
+    → joinOf a b out ≡ joinAfter (joined (length a)) (sets out 0 a)
+empty-second-joined a b out x y bytes p q d n e room =
+    let m = parse-is a x bytes p in
+    let l : length (imageBytes x) ≡ length a = ap length (m .bytes) in
+    ap₂ (λ (o r : Option Image). joinBy o r out) p q ∙ empty-joined x y out d n e (m .valid .total) (omega (arith, l))
+    ∙ ap (λ (i : List ℕ). joinAfter (joined (length i)) (sets out 0 i)) (m .bytes)
