@@ -1,4 +1,5 @@
-/* Records two signals, opens the image, and lists it: the times, and one loaded signal. */
+/* Records two signals, opens the image, and lists it: the times, and one loaded signal. Then the unit starts anew, and the second recording is
+ * joined to the first. */
 #include "wejumo.h"
 
 #include <stdio.h>
@@ -41,6 +42,16 @@ static uint32_t record(void) {
   return keep("finish", wejumo_finish(rec.state, rec.records, SIGNALS, rec.times, LIMIT, rec.work, WORK, rec.image, IMAGE));
 }
 
+/* After a restart: it begins at the time that ended the first, with a value that signal 1 has already. */
+static uint32_t record_again(void) {
+  keep("start", wejumo_start(rec.state, LIMIT, SIGNALS, rec.records, SIGNALS, rec.times, LIMIT, rec.image, IMAGE));
+  at(20);
+  change(1, "b0001");
+  at(35);
+  change(1, "bz");
+  return keep("finish", wejumo_finish(rec.state, rec.records, SIGNALS, rec.times, LIMIT, rec.work, WORK, rec.image, IMAGE));
+}
+
 /* An image that was opened. */
 static void list_times(const uint8_t *image, size_t length) {
   uint64_t times[ENTRIES];
@@ -79,23 +90,42 @@ static void list_signal(const uint8_t *image, size_t length, uint32_t signal) {
   }
 }
 
+static void list(const uint8_t *image, size_t length) {
+  printf("signals %u blocks %u\n", wejumo_opened_signals(image, length), wejumo_opened_blocks(image, length));
+  list_times(image, length);
+  list_signal(image, length, 1);
+}
+
+/* The first image and the one that was recorded after it. */
+static int join(const uint8_t *first, size_t first_length) {
+  uint8_t both[2 * IMAGE] = {0};
+  uint32_t again = record_again();
+  wejumo_join_answer joined = wejumo_join(first, first_length, rec.image, again, both, sizeof both);
+  printf("join: answer %u value %u\n", joined.answer, joined.value);
+  if (joined.answer != WEJUMO_JOINED || !wejumo_open(both, joined.value)) {
+    return 1;
+  }
+  list(both, joined.value);
+  return 0;
+}
+
 int main(void) {
+  uint8_t first[IMAGE] = {0};
   uint32_t total = record();
+  memcpy(first, rec.image, total);
   for (uint32_t i = 0; i < total; i++) {
-    printf("%02X", rec.image[i]);
+    printf("%02X", first[i]);
   }
   printf("\n");
-  if (!wejumo_open(rec.image, total)) {
+  if (!wejumo_open(first, total)) {
     printf("no image\n");
     return 1;
   }
-  printf("signals %u blocks %u\n", wejumo_opened_signals(rec.image, total), wejumo_opened_blocks(rec.image, total));
-  list_times(rec.image, total);
-  list_signal(rec.image, total, 1);
-  wejumo_part part = wejumo_opened_stream(rec.image, total, 0, 1);
+  list(first, total);
+  wejumo_part part = wejumo_opened_stream(first, total, 0, 1);
   printf("stream of signal 1: %u bytes from %u\n", (unsigned)part.length, (unsigned)part.from);
   uint8_t symbols[4] = {0};
-  wejumo_cursor_answer found = wejumo_opened_cursor(rec.image, total, 1, 15, symbols, sizeof symbols);
+  wejumo_cursor_answer found = wejumo_opened_cursor(first, total, 1, 15, symbols, sizeof symbols);
   printf("at 15: answer %u entry %u time %llu form %u\n", found.answer, found.value, (unsigned long long)found.time, found.content.form);
-  return 0;
+  return join(first, total);
 }

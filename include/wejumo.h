@@ -1,9 +1,9 @@
 /* Wejumo: a signal recorder's wave memory.
  *
- * Value changes become an image, and an image is read back. Every function is proved to meet its contract in crates/interface, which this
- * header retells, for any numbers and any contents of the buffers, in any order of calls. The functions of the last part have one duty
- * more, said there. What is recorded and answered is defined in crates/interface/specs/ and the definitions that it cites; docs/PROMISES.md
- * leads there.
+ * Value changes become an image, an image is read back, and two are joined. Every function is proved to meet its contract in crates/interface,
+ * which this header retells, for any numbers and any contents of the buffers, in any order of calls. The functions of the last part have one
+ * duty more, said there. What is recorded and answered is defined in crates/interface/specs/ and the definitions that it cites;
+ * docs/PROMISES.md leads there.
  *
  * What the caller owes in every call:
  *  - A buffer is a pointer and the number of its elements. The pointer is not null and is aligned for its type, also where the number is 0.
@@ -67,6 +67,7 @@ extern "C" {
 #define WEJUMO_NOTHING UINT32_C(11)
 #define WEJUMO_ENTRY UINT32_C(12)
 #define WEJUMO_NO_ENTRY UINT32_C(13)
+#define WEJUMO_JOINED UINT32_C(14)   /* value: the total bytes of the joined image */
 
 /* Refusals. */
 #define WEJUMO_BAD_START UINT32_C(1)      /* the start's numbers or buffers */
@@ -76,10 +77,13 @@ extern "C" {
 #define WEJUMO_WRONG_KIND UINT32_C(5)
 #define WEJUMO_BAD_VALUE UINT32_C(6)
 #define WEJUMO_WORK_FULL UINT32_C(7)
-#define WEJUMO_IMAGE_FULL UINT32_C(8)
+#define WEJUMO_IMAGE_FULL UINT32_C(8)     /* no room for a block to cut, or for a joined image */
 #define WEJUMO_OUTPUT_SHORT UINT32_C(9)
 #define WEJUMO_ALTERED UINT32_C(10)       /* state or memory was altered between calls */
 #define WEJUMO_NO_IMAGE UINT32_C(11)      /* the opener does not accept */
+#define WEJUMO_UNLIKE UINT32_C(14)        /* images to join differ in S, B or a kind */
+#define WEJUMO_NO_BLOCK UINT32_C(15)      /* the first image to join has no block */
+#define WEJUMO_OVERLAP UINT32_C(16)       /* the second image to join starts before the first ends */
 
 /* A recording between two calls. Before the first start it may have any values, as { 0 }. Flags are off at 0 and on at every other number; a
  * call that leaves a flag on hands back its number, and one that sets it hands back 1. */
@@ -174,7 +178,7 @@ wejumo_outcome wejumo_finish(wejumo_state state,
                              const uint8_t *work, size_t work_length,
                              uint8_t *image, size_t image_length);
 
-/* ---- Reading any bytes. Each call on an image opens first. */
+/* ---- Reading any bytes. Each call on an image opens it first. */
 
 /* LOADED with the number of kept entries and the signal's class. */
 typedef struct wejumo_load_answer {
@@ -224,7 +228,8 @@ WEJUMO_ASSERT(offsetof(wejumo_content, form) == 0);
 WEJUMO_ASSERT(offsetof(wejumo_content, value_class) == 4);
 WEJUMO_ASSERT(offsetof(wejumo_content, bits) == 8);
 
-/* FOUND with the entry's number, time and content, or NOTHING: the signal has no entries. All else is 0 where it is not found, but for a refusal's number. */
+/* FOUND with the entry's number, time and content, or NOTHING: the signal has no entries. All else is 0 where it is not found, but for a
+ * refusal's number. */
 typedef struct wejumo_cursor_answer {
   uint32_t answer;
   uint32_t value;
@@ -250,7 +255,7 @@ WEJUMO_ASSERT(offsetof(wejumo_entry_answer, answer) == 0);
 WEJUMO_ASSERT(offsetof(wejumo_entry_answer, value) == 4);
 WEJUMO_ASSERT(offsetof(wejumo_entry_answer, content) == 8);
 
-/* 1 where the bytes are an image, else 0. */
+/* 1 where the bytes are an image, left by a recording or joined from images, else 0. */
 uint32_t wejumo_open(const uint8_t *image, size_t image_length);
 
 /* Writes the indices of a signal's kept entries (in the combined table) and their bytes, all of one length, to the starts of the outputs,
@@ -260,7 +265,8 @@ wejumo_load_answer wejumo_load(const uint8_t *image, size_t image_length, uint32
                                uint32_t *index, size_t index_length,
                                uint8_t *bytes, size_t bytes_length);
 
-/* Writes the combined table of all blocks' times to the start of out. Refused with 11, 9. */
+/* Writes the combined table of all blocks' times to the start of out; a time that ends a block and begins the next stands there once. Refused
+ * with 11, 9. */
 wejumo_table_answer wejumo_table(const uint8_t *image, size_t image_length,
                                  uint64_t *out, size_t out_length);
 
@@ -279,6 +285,28 @@ size_t wejumo_entry_length(uint32_t kind, uint32_t signal_class);
 /* The bytes of one loaded entry of a signal of a kind's number and a class. Refused with 9. */
 wejumo_entry_answer wejumo_entry_value(const uint8_t *bytes, size_t bytes_length, uint32_t kind, uint32_t signal_class,
                                        uint8_t *symbols, size_t symbols_length);
+
+/* ---- Joining any bytes. Both images are opened first. */
+
+/* JOINED with the total bytes of the image that was made. */
+typedef struct wejumo_join_answer {
+  uint32_t answer;
+  uint32_t value;
+} wejumo_join_answer;
+
+WEJUMO_ASSERT(sizeof(wejumo_join_answer) == 8);
+WEJUMO_ASSERT(offsetof(wejumo_join_answer, answer) == 0);
+WEJUMO_ASSERT(offsetof(wejumo_join_answer, value) == 4);
+
+/* Writes one image to the start of out, and nothing past it: the head of the first with the number of blocks of both and the new total, then
+ * the blocks of the first and those of the second. It loads as one recording after the other, with repeats dropped between them too; a time
+ * that ends the first and starts the second is one time. A second image without blocks gives the first. Refused, tested in this order, with
+ * 11 for either image, 14, 15, 16, 8: out is shorter than the total, or the total is above WEJUMO_MAX_IMAGE. */
+wejumo_join_answer wejumo_join(const uint8_t *first, size_t first_length,
+                               const uint8_t *second, size_t second_length,
+                               uint8_t *out, size_t out_length);
+
+/* ---- For measuring. */
 
 /* The sum of bytes, of which 64 bits are kept: a plain loop, against which bench/ holds the opener's speed. */
 uint64_t wejumo_sum(const uint8_t *bytes, size_t bytes_length);

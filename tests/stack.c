@@ -10,21 +10,23 @@
 #include <string.h>
 #include <ucontext.h>
 
-enum { STACK = 256 * 1024, SIGNALS = 65536, LIMIT = 1100, TIMES = 3400, WORK = 4 << 20, IMAGE = 8 << 20, OUT = 4 << 20 };
+enum { STACK = 64 * 1024, SIGNALS = 65536, LIMIT = 1100, TIMES = 3400, ALL_TIMES = 2 * TIMES - 1, BLOCKS = 8 };
+enum { WORK = 4 << 20, IMAGE = 8 << 20, OUT = 4 << 20 };
 
 /* All arguments, and the last answers. */
 static wejumo_state state;
 static uint32_t limit = LIMIT, signal_number, claim, block, kind, class_number;
 static uint64_t time_now, bits;
-static uint64_t records[SIGNALS], times[LIMIT], table[TIMES];
-static uint8_t work[WORK], image[IMAGE], bytes[OUT], symbols[SIGNALS], value[SIGNALS + 8];
+static uint64_t records[SIGNALS], times[LIMIT], table[ALL_TIMES];
+static uint8_t work[WORK], first[IMAGE], second[IMAGE], image[IMAGE], bytes[OUT], symbols[SIGNALS], value[SIGNALS + 8];
 static uint32_t indices[OUT];
-static size_t signals = SIGNALS, image_length = IMAGE, value_length;
+static size_t signals = SIGNALS, first_length, second_length, image_length = IMAGE, value_length;
 static wejumo_outcome outcome;
 static wejumo_load_answer loaded;
 static wejumo_cursor_answer found;
 static wejumo_entry_answer entry;
 static wejumo_table_answer tabled;
+static wejumo_join_answer joined;
 static wejumo_part part;
 static uint32_t number;
 static size_t length;
@@ -49,18 +51,19 @@ CALL(wejumo_real_change, outcome = wejumo_real_change(state, LENT, signal_number
 CALL(wejumo_finish, outcome = wejumo_finish(state, LENT))
 CALL(wejumo_open, number = wejumo_open(image, image_length))
 CALL(wejumo_load, loaded = wejumo_load(image, image_length, signal_number, indices, OUT, bytes, OUT))
-CALL(wejumo_table, tabled = wejumo_table(image, image_length, table, TIMES))
+CALL(wejumo_table, tabled = wejumo_table(image, image_length, table, ALL_TIMES))
 CALL(wejumo_stream, part = wejumo_stream(image, image_length, block, signal_number))
 CALL(wejumo_cursor, found = wejumo_cursor(image, image_length, signal_number, time_now, symbols, SIGNALS))
 CALL(wejumo_entry_length, length = wejumo_entry_length(kind, class_number))
 CALL(wejumo_entry_value, entry = wejumo_entry_value(bytes, length, kind, class_number, symbols, SIGNALS))
+CALL(wejumo_join, joined = wejumo_join(first, first_length, second, second_length, image, IMAGE))
 CALL(wejumo_sum, total = wejumo_sum(image, image_length))
 CALL(wejumo_opened_signals, number = wejumo_opened_signals(image, image_length))
 CALL(wejumo_opened_blocks, number = wejumo_opened_blocks(image, image_length))
 CALL(wejumo_opened_times, number = wejumo_opened_times(image, image_length))
 CALL(wejumo_opened_kind, number = wejumo_opened_kind(image, image_length, signal_number))
 CALL(wejumo_opened_load, loaded = wejumo_opened_load(image, image_length, signal_number, indices, OUT, bytes, OUT))
-CALL(wejumo_opened_table, tabled = wejumo_opened_table(image, image_length, table, TIMES))
+CALL(wejumo_opened_table, tabled = wejumo_opened_table(image, image_length, table, ALL_TIMES))
 CALL(wejumo_opened_stream, part = wejumo_opened_stream(image, image_length, block, signal_number))
 CALL(wejumo_opened_cursor, found = wejumo_opened_cursor(image, image_length, signal_number, time_now, symbols, SIGNALS))
 
@@ -138,25 +141,37 @@ static void changes(uint64_t time) {
 }
 
 /* S at its top, several blocks, changes of every kind at both ends of each, so that stream numbers have up to three bytes. The last signal but
- * one is absent. */
-static void record(void) {
+ * one is absent. The image goes to `to`; its length is answered. */
+static size_t record(uint64_t from, uint8_t *to) {
   static const uint32_t kinds[] = {WEJUMO_EVENT, 1, 7, 65536, WEJUMO_REAL};
   for (size_t i = 0; i < SIGNALS; i++) records[i] = i < 5 ? kinds[i] : i == SIGNALS - 2 ? WEJUMO_ABSENT : 8;
   RECORDER(wejumo_start, WEJUMO_STARTED);
   signal_number = 0;
   RECORDER(wejumo_real_change, WEJUMO_REFUSED);
-  for (time_now = 1; time_now <= TIMES; time_now++) {
+  for (uint64_t i = 1; i <= TIMES; i++) {
+    time_now = from + i;
     RECORDER(wejumo_time_change, WEJUMO_TAKEN);
-    if (time_now % (LIMIT - 1) > 2) continue;
-    changes(time_now);
+    if (i % (LIMIT - 1) > 2) continue;
+    changes(i);
     change(SIGNALS - 1, "x0", 8, WEJUMO_RECORDED);
   }
-  time_now = 3;
+  time_now = from;
   RECORDER(wejumo_time_change, WEJUMO_BACK);
   change(3, "1", 1, WEJUMO_SKIPPED);
   RECORDER(wejumo_finish, WEJUMO_FINISHED);
-  image_length = outcome.value;
+  size_t total_bytes = outcome.value;
   RECORDER(wejumo_finish, WEJUMO_REFUSED);
+  memcpy(to, image, total_bytes);
+  return total_bytes;
+}
+
+/* Two recordings that share a time, and the image that both make, which is read below. */
+static void join_both(void) {
+  first_length = record(0, first);
+  second_length = record(TIMES - 1, second);
+  MEASURE(wejumo_join);
+  want("wejumo_join", joined.answer, WEJUMO_JOINED);
+  image_length = joined.value;
 }
 
 static void read_all(void) {
@@ -164,11 +179,11 @@ static void read_all(void) {
   want("wejumo_open", number, 1);
   MEASURE(wejumo_opened_signals);
   MEASURE(wejumo_opened_blocks);
-  want("wejumo_opened_blocks", number, 4);
+  want("wejumo_opened_blocks", number, BLOCKS);
   MEASURE(wejumo_opened_times);
   MEASURE(wejumo_table);
   MEASURE(wejumo_opened_table);
-  want("wejumo_opened_table", tabled.value, TIMES);
+  want("wejumo_opened_table", tabled.value, ALL_TIMES);
   static const uint32_t read[] = {0, 1, 2, 3, 4, 5, SIGNALS - 2, SIGNALS - 1, SIGNALS};
   for (size_t i = 0; i < sizeof read / sizeof read[0]; i++) {
     signal_number = read[i];
@@ -182,11 +197,11 @@ static void read_all(void) {
     MEASURE(wejumo_entry_length);
     MEASURE(wejumo_entry_value);
     MEASURE(wejumo_sum);
-    for (block = 0; block < 5; block++) {
+    for (block = 0; block <= BLOCKS; block++) {
       MEASURE(wejumo_stream);
       MEASURE(wejumo_opened_stream);
     }
-    for (time_now = 0; time_now < TIMES + 500; time_now += 500) {
+    for (time_now = 0; time_now < ALL_TIMES + 500; time_now += 500) {
       MEASURE(wejumo_cursor);
       MEASURE(wejumo_opened_cursor);
     }
@@ -211,26 +226,29 @@ static void entries(void) {
 
 /* Images that the opener refuses deep in a stream: at numbers of many bytes. */
 static void damaged(void) {
-  block = 0;
+  block = BLOCKS / 2; /* the first of the second image, whose blocks end both */
   signal_number = SIGNALS - 1;
   MEASURE(wejumo_opened_stream);
-  uint8_t *at = image + part.from;
+  uint8_t *at = image + part.from, *same = second + second_length - (image_length - part.from);
   for (size_t n = 1; n < 7; n++) {
     memset(at, 0xFF, n);
     at[n] = 0x01;
+    memcpy(same, at, n + 1);
     MEASURE(wejumo_open);
     want("wejumo_open", number, 0);
     MEASURE(wejumo_load);
     MEASURE(wejumo_table);
     MEASURE(wejumo_stream);
     MEASURE(wejumo_cursor);
+    MEASURE(wejumo_join);
+    want("wejumo_join", joined.value, WEJUMO_NO_IMAGE);
   }
 }
 
 #define PRINT(name) printf(#name " %zu\n", used_##name)
 
 int main(void) {
-  record();
+  join_both();
   read_all();
   entries();
   damaged();
@@ -247,6 +265,7 @@ int main(void) {
   PRINT(wejumo_cursor);
   PRINT(wejumo_entry_length);
   PRINT(wejumo_entry_value);
+  PRINT(wejumo_join);
   PRINT(wejumo_sum);
   PRINT(wejumo_opened_signals);
   PRINT(wejumo_opened_blocks);

@@ -35,6 +35,12 @@ pub struct TableAnswer {
 }
 
 #[repr(C)]
+pub struct JoinAnswer {
+    pub answer: u32,
+    pub value: u32,
+}
+
+#[repr(C)]
 pub struct Part {
     pub from: usize,
     pub length: usize,
@@ -74,6 +80,7 @@ layout!(State, 40, closed 0, limit 4, signals 8, held 12, work 16, image 24, blo
 layout!(Outcome, 48, answer 0, value 4, state 8);
 layout!(LoadAnswer, 12, answer 0, value 4, signal_class 8);
 layout!(TableAnswer, 8, answer 0, value 4);
+layout!(JoinAnswer, 8, answer 0, value 4);
 layout!(Part, 16, from 0, length 8);
 layout!(Content, 16, form 0, value_class 4, bits 8);
 layout!(CursorAnswer, 32, answer 0, value 4, time 8, content 16);
@@ -120,6 +127,10 @@ extern "C" {
     pub fn wejumo_entry_value(
         bytes: *const u8, bytes_length: usize, kind: u32, signal_class: u32, symbols: *mut u8, symbols_length: usize,
     ) -> EntryAnswer;
+
+    pub fn wejumo_join(
+        first: *const u8, first_length: usize, second: *const u8, second_length: usize, out: *mut u8, out_length: usize,
+    ) -> JoinAnswer;
 
     pub fn wejumo_sum(bytes: *const u8, bytes_length: usize) -> u64;
 

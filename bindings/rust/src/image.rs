@@ -1,6 +1,6 @@
-//! Images, and the calls that read any bytes.
+//! Images, the calls that read any bytes, and joining two images.
 
-use crate::ffi::{self, Content, CursorAnswer, EntryAnswer, LoadAnswer, Part, TableAnswer};
+use crate::ffi::{self, Content, CursorAnswer, EntryAnswer, JoinAnswer, LoadAnswer, Part, TableAnswer};
 use crate::{Kind, Refusal, States};
 
 /// The number of kept entries and the signal's class.
@@ -205,6 +205,24 @@ pub fn cursor(image: &[u8], signal: u32, time: u64, symbols: &mut [u8]) -> Resul
             symbols.len(),
         )
     })
+}
+
+/// Writes one image of the blocks of both to the start of an output, and answers its total. 11, 14, 15, 16, 8.
+pub fn join(first: &[u8], second: &[u8], out: &mut [u8]) -> Result<u32, Refusal> {
+    let answer: JoinAnswer = unsafe {
+        ffi::wejumo_join(
+            first.as_ptr(),
+            first.len(),
+            second.as_ptr(),
+            second.len(),
+            out.as_mut_ptr(),
+            out.len(),
+        )
+    };
+    match answer.answer {
+        14 => Ok(answer.value),
+        _ => Err(Refusal(answer.value)),
+    }
 }
 
 /// The sum of the bytes, of which 64 bits are kept.

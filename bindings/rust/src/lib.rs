@@ -1,4 +1,4 @@
-//! Safe calls of the wave memory: a recorder over lent buffers, and images.
+//! Safe calls of the wave memory: a recorder over lent buffers, and images, read and joined.
 //!
 //! Every duty that include/wejumo.h names, but for the stack, is met by the types: a Rust slice is not null, aligned and of its length, a `&mut` overlaps
 //! nothing, and nothing writes a borrowed slice. What the functions do is proved in crates/interface; nothing is decided here.
@@ -10,10 +10,12 @@ mod image;
 mod recorder;
 
 pub use ffi::State;
-pub use image::{cursor, entry_length, entry_value, load, stream, sum, table, Cursor, Entry, Image, Loaded, Value};
+pub use image::{
+    cursor, entry_length, entry_value, join, load, stream, sum, table, Cursor, Entry, Image, Loaded, Value,
+};
 pub use recorder::{Answer, Recorder};
 
-/// The number of a refusal, 1 to 11.
+/// The number of a refusal: 1 to 11, and 14 to 16 of a join.
 #[derive(Clone, Copy, Debug, PartialEq, Eq)]
 pub struct Refusal(pub u32);
 

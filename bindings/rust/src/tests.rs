@@ -1,4 +1,4 @@
-//! The recording of the bench sheet, refusals, and reads with and without opening.
+//! The recording of the bench sheet, refusals, reads with and without opening, and joins.
 
 use crate::*;
 
@@ -193,4 +193,177 @@ fn no_width_is_taken_for_another_kind() {
 fn a_sum_keeps_every_byte() {
     assert_eq!(sum(&[]), 0);
     assert_eq!(sum(&[1, 255, 7]), 263);
+}
+
+/// The image of a recording: its kinds by number, B, and its calls, none of which is refused.
+fn recorded(kinds: &[u32], limit: u32, calls: impl Fn(&mut Recorder) -> Result<Answer, Refusal>) -> Vec<u8> {
+    let mut records: Vec<u64> = kinds.iter().map(|kind| Kind::from_number(*kind).record()).collect();
+    let (mut times, mut work, mut image) = ([0; 4], [0; 64], [0; 128]);
+    let mut recorder = Recorder::new(&mut records, &mut times, &mut work, &mut image);
+    assert_eq!(recorder.start(limit), Ok(Answer::Started));
+    calls(&mut recorder).unwrap();
+    recorder.finish().unwrap();
+    recorder.image().to_vec()
+}
+
+/// No time was taken, so it has no block.
+fn empty(kinds: &[u32], limit: u32) -> Vec<u8> {
+    recorded(kinds, limit, |_| Ok(Answer::Started))
+}
+
+/// One signal of a kind, B 2, and one change at each time.
+fn of_times(kind: u32, changes: &[(u64, &[u8])]) -> Vec<u8> {
+    recorded(&[kind], 2, |r| {
+        changes.iter().try_fold(Answer::Started, |_, (time, value)| {
+            r.time(*time)?;
+            r.vcd(0, value)
+        })
+    })
+}
+
+/// Joined into an output of so many bytes, what is past the total being untouched, and all of it where the join is refused.
+fn joined_in(first: &[u8], second: &[u8], room: usize) -> Result<Vec<u8>, Refusal> {
+    let mut out: Vec<u8> = (0..room).map(|place| 0x5A ^ place as u8).collect();
+    let before = out.clone();
+    let answer = join(first, second, &mut out);
+    let total = answer.unwrap_or(0) as usize;
+    assert_eq!(out[total..], before[total..]);
+    out.truncate(total);
+    answer.map(|_| out)
+}
+
+/// The class and the kept entries of a signal, and the combined table.
+type Shown = (States, Vec<u32>, Vec<u8>, Vec<u64>);
+
+fn shown(bytes: &[u8], signal: u32) -> Shown {
+    let image = Image::open(bytes).unwrap();
+    let (mut index, mut entries, mut times) = (vec![9; 8], vec![9; 16], vec![9; 8]);
+    let loaded = image.load(signal, &mut index, &mut entries).unwrap();
+    index.truncate(loaded.count as usize);
+    entries.truncate(index.len() * entry_length(image.kind(signal), loaded.states));
+    let length = image.table(&mut times).unwrap();
+    times.truncate(length as usize);
+    (loaded.states, index, entries, times)
+}
+
+/// Widths 1 and 2, B 4. First: time 1, "1"; time 5, second 11 with claim Nine. Then: time 5, "1" and "11"; time 9, "0".
+const JOINED: &str =
+    "02000000 04000000 02000000 6B000000 01000000 02000000 29000000 02000000 02000000 01000000 03000000 \
+     0100000000000000 0500000000000000 00 01 02 04 03 2A000000 02000000 02000000 01000000 04000000 \
+     0500000000000000 0900000000000000 00 01 10 00 00 03";
+
+#[test]
+fn a_join_drops_repeats_over_the_seam() {
+    let first = recorded(&[1, 2], 4, |r| {
+        r.time(1)?;
+        r.vcd(0, b"1")?;
+        r.time(5)?;
+        r.raw(1, 2, &[0x11])
+    });
+    let second = recorded(&[1, 2], 4, |r| {
+        r.time(5)?;
+        r.vcd(0, b"1")?;
+        r.vcd(1, b"11")?;
+        r.time(9)?;
+        r.vcd(0, b"0")
+    });
+    let whole = bytes_of(JOINED);
+    for room in 0..120 {
+        let wanted = if room < 107 { Err(Refusal(8)) } else { Ok(whole.clone()) };
+        assert_eq!(joined_in(&first, &second, room), wanted, "{room}");
+    }
+    assert_eq!(
+        shown(&whole, 0),
+        (States::Two, vec![0, 2], vec![0x01, 0x00], vec![1, 5, 9])
+    );
+    // the largest class byte, which is not the last
+    assert_eq!(
+        shown(&whole, 1),
+        (States::Nine, vec![1], vec![0x00, 0x03], vec![1, 5, 9])
+    );
+}
+
+#[test]
+fn three_joined_at_one_time() {
+    let one = of_times(0, &[(5, b"1")]);
+    let two = joined_in(&one, &one, 200).unwrap();
+    let three = joined_in(&two, &one, 200).unwrap();
+    assert_eq!(joined_in(&one, &two, 200).as_ref(), Ok(&three));
+    assert_eq!(three.len(), 98);
+    assert_eq!(shown(&three, 0), (States::Two, vec![0, 0, 0], vec![], vec![5]));
+}
+
+#[test]
+fn a_join_with_a_gap() {
+    let (first, second) = (
+        recorded(&[1], 2, |r| {
+            r.time(1)?;
+            r.vcd(0, b"0")?;
+            r.time(2)
+        }),
+        of_times(1, &[(7, b"x")]),
+    );
+    let joined = joined_in(&first, &second, 200).unwrap();
+    assert_eq!(
+        shown(&joined, 0),
+        (States::Four, vec![0, 2], vec![0x00, 0x42], vec![1, 2, 7])
+    );
+    let found = cursor(&joined, 0, 6, &mut [0]).unwrap();
+    assert!(matches!(found, Cursor::Found { number: 0, time: 1, .. }));
+}
+
+/// So much room is enough, and one byte less is not.
+fn needs(first: &[u8], second: &[u8], room: usize) -> Vec<u8> {
+    assert_eq!(joined_in(first, second, room - 1), Err(Refusal(8)));
+    joined_in(first, second, room).unwrap()
+}
+
+#[test]
+fn a_join_needs_its_total() {
+    let first = of_times(1, &[(1, b"0"), (6, b"1")]);
+    assert_eq!(needs(&first, &empty(&[1], 2), first.len()), first);
+    for time in [6, 7, u64::MAX] {
+        let second = of_times(1, &[(time, b"0")]);
+        let total = first.len() + second.len() - 20; // one head
+        assert_eq!(needs(&first, &second, total).len(), total);
+    }
+}
+
+/// Each refusal where later ones would fit too: in one of the rooms the output has no byte.
+#[test]
+fn refusals_of_a_join_in_order() {
+    let (early, before_end, late) = (
+        of_times(1, &[(1, b"0"), (6, b"1")]),
+        of_times(1, &[(5, b"0")]),
+        of_times(1, &[(7, b"x")]),
+    );
+    let (none, no_signal, of_limit_3) = (empty(&[1], 2), empty(&[], 2), recorded(&[1], 3, |r| r.time(1)));
+    let (short, mut other_total) = (&early[..early.len() - 1], early.clone());
+    other_total[12] += 1;
+    let cases: [(&[u8], &[u8], u32); 19] = [
+        (&[], &[], 11),
+        (short, &of_limit_3, 11),
+        (&of_limit_3, short, 11),
+        (&other_total, &of_limit_3, 11),
+        (&none, &other_total, 11),
+        (&none, &of_limit_3, 14),
+        (&late, &of_limit_3, 14),
+        (&early, &empty(&[1], 3), 14),
+        (&none, &empty(&[2], 2), 14),
+        (&none, &empty(&[1, 1], 2), 14),
+        (&no_signal, &none, 14),
+        (&empty(&[1, 0], 2), &empty(&[1, u32::MAX], 2), 14),
+        (&late, &of_times(2, &[(1, b"0")]), 14),
+        (&none, &none, 15),
+        (&none, &early, 15),
+        (&no_signal, &no_signal, 15),
+        (&late, &early, 16),
+        (&early, &before_end, 16),
+        (&early, &early, 16),
+    ];
+    for (number, (first, second, refusal)) in cases.into_iter().enumerate() {
+        for room in [0, 200] {
+            assert_eq!(joined_in(first, second, room), Err(Refusal(refusal)), "case {number}");
+        }
+    }
 }
