@@ -20,7 +20,7 @@ class Refused(Exception):
 class Signal:
     def __init__(self, kind):
         self.kind = kind
-        self.top_class = 0  # the class byte of its latest part
+        self.largest_class = 0  # of the class bytes of its parts
         self.kept = []  # pairs (index in the combined table, content as listed)
 
 def need(condition):
@@ -70,45 +70,48 @@ def take_change(stream, kind):
     need(value_class <= 2)  # rule 24
     return step, value_class, "".join(LETTERS[s] for s in take_packed(stream, kind, value_class))
 
-def read_part(part, signal, indices, start):
+def read_part(part, signal, time_count, start):
     """Adds a part's kept changes to its signal; start is the block's in the combined table."""
     need(signal.kind != ABSENT)  # rule 16
-    need(part[0] <= (0 if signal.kind in (EVENT, REAL) else 2))  # rule 17
-    need(part[0] >= signal.top_class)  # rule 19
-    signal.top_class = part[0]
+    class_byte = part[0]
+    need(class_byte <= 2)  # rule 17
+    need(class_byte == 0 or signal.kind not in (EVENT, REAL))  # rule 19
+    signal.largest_class = max(signal.largest_class, class_byte)
     stream = io.BytesIO(part[1:])
     index = 0
     while stream.tell() < len(part) - 1:
         step, value_class, content = take_change(stream, signal.kind)
         index += step
-        need(index in indices)  # rule 22
-        need(value_class <= signal.top_class)  # rule 18
+        need(index < time_count)  # rule 22
+        need(value_class <= class_byte)  # rule 18: this part's, not the largest
         # The change before this one has the content of the last kept one.
         if signal.kind == EVENT or not signal.kept or signal.kept[-1][1] != content:
             signal.kept.append((start + index, content))
 
-def read_block(source, signals, times, max_times, is_first, is_last):
+def read_block(source, signals, times, max_times):
     """Adds a block's times to the combined table, and its changes to the signals."""
     size, time_count, signal_count = take_u32s(source, 3)  # rule 7
     need(signal_count == len(signals))  # rule 9
-    need(time_count <= max_times and (is_last or time_count == max_times))  # rule 10
-    need(time_count >= (1 if is_first else 2))  # rule 11
+    need(time_count <= max_times)  # rule 10
+    need(time_count >= 1)  # rule 11
     need(size >= 12 + 4 * signal_count + 8 * time_count)  # rule 8
     block = io.BytesIO(take(source, size - 12))  # rule 7
     offsets = take_u32s(block, signal_count)
     block_times = struct.unpack(f"<{time_count}Q", take(block, 8 * time_count))
     need(all(a < b for a, b in zip(block_times, block_times[1:])))  # rule 12
-    need(is_first or block_times[0] == times[-1])  # rule 13
-    start = 0 if is_first else len(times) - 1
-    times[start:] = block_times
-    indices = range(0 if is_first else 1, time_count)
+    if times:  # by rule 11 this is so in every block after another
+        need(block_times[0] >= times[-1])  # rule 13
+        if block_times[0] == times[-1]:
+            times.pop()  # it comes again with this block and stands in the combined table once
+    start = len(times)
+    times.extend(block_times)
     data = block.read()
     with_part = [signal for signal, offset in zip(signals, offsets) if offset]
     bounds = [offset - 1 for offset in offsets if offset] + [len(data)]
     need(bounds[0] == 0)  # rule 14: the first offset is 1; without parts the data is empty
     need(all(end - begin >= 2 for begin, end in zip(bounds, bounds[1:])))  # rules 14 and 15
     for signal, begin, end in zip(with_part, bounds, bounds[1:]):
-        read_part(data[begin:end], signal, indices, start)
+        read_part(data[begin:end], signal, time_count, start)
 
 def read_image(image):
     """The signals, the combined table and the number of blocks."""
@@ -120,8 +123,8 @@ def read_image(image):
     kinds = take_u32s(source, signal_count)  # rule 1
     need(all(kind <= 65_536 or kind in (REAL, ABSENT) for kind in kinds))  # rule 6
     signals, times = [Signal(kind) for kind in kinds], []
-    for block in range(block_count):
-        read_block(source, signals, times, max_times, block == 0, block == block_count - 1)
+    for _ in range(block_count):
+        read_block(source, signals, times, max_times)
     need(source.read() == b"")  # rule 7
     return signals, times, block_count
 
@@ -129,7 +132,7 @@ def signal_head(signal):
     """The signal's line without its number."""
     if signal.kind == ABSENT:
         return "absent"
-    shown_class = signal.top_class if signal.kept else 2  # by rule 15 a part has a kept change
+    shown_class = signal.largest_class if signal.kept else 2  # its first part has one (rule 15)
     names = {EVENT: "event", REAL: "real"}
     name = names.get(signal.kind, f"width {signal.kind} class {shown_class}")
     return f"{name} changes {len(signal.kept)}"
