@@ -7,21 +7,24 @@
   images.py damaged SEED N     N random damaged images, as questions `open HEX`
 
 Tables and loads of the recordings of recordings.in are answered by the Rust (loads.out), and the entries that
-cursors find there are held against the values that the Rust shows. All other answers are those of reader.py; a
-second reading of the opener (`left_by_a_list`) must agree with it on every image.
+cursors find there are held against the values that the Rust shows. All other answers are those of reader.py; the
+second opener (opener.py) must agree with it on every image.
 """
+import functools
 import pathlib
 import random
 import sys
 
-from reader import (ABSENT, EVENT, REAL, answer, combined, cursor, kept, left_by_a_list, opens, read_image,
-                    value_word)
-from recorder import block_bytes, head_bytes, u32
+from join import join
+from opener import left_or_joined
+from reader import ABSENT, EVENT, REAL, answer, combined, cursor, kept, opens, read_image, value_word
+from recorder import IMAGE_LIMIT, block_bytes, head_bytes, u32
 
 SEED = 40019
 HERE = pathlib.Path(__file__).parent
 WITH_CURSORS = 240  # of the recordings; the others are opened and loaded
-NUMBERS, BYTES, IMAGE = 64, 2048, 1024  # what crates/images has
+WITH_ROOMS = range(7, 55)
+NUMBERS, BYTES, IMAGE, QUESTIONS = 64, 2048, 1024, 409_600  # what crates/images has
 TOP_TIME = 2**64 - 1
 BENCH = bytes.fromhex(
     "02000000 04000000 01000000 43000000 01000000 04000000 2B000000 02000000 02000000 01000000 03000000"
@@ -42,7 +45,7 @@ class Sheet:
         assert len(image) <= IMAGE
         assert words[0] != "load" or not said.endswith("a5"), "the pattern in lent memory"
         if image != self.image:
-            assert opens(image) == left_by_a_list(image), image.hex()
+            assert opens(image) == left_or_joined(image), image.hex()
         digits = "-" if image == self.image else image.hex()
         self.image = image
         self.questions.append(" ".join([*words, digits]))
@@ -97,6 +100,8 @@ def recordings(sheet, rng):
         pairs = [(block, signal) for block in range(len(read.blocks)) for signal in range(len(read.kinds))]
         for block, signal in rng.sample(pairs, min(3, len(pairs))):
             sheet.ask(f"stream {block} {signal}", image)
+        if number in WITH_ROOMS:
+            rooms(sheet, image)
 
 
 # Lent memory exactly as long as needed, one shorter and one longer.
@@ -214,9 +219,14 @@ def edited(image, place, number):
     return image[:place] + u32(number) + image[place + 4:]
 
 
+ONE = "000000000000f03f"  # the real 1.0
 ACCEPTED = [
     made(2, []), made(65_535, []), made(2, [65_536, REAL, ABSENT, 0, 1]), bare([1]), bare([0]), bare([1, 2]),
     bare([1, 2], [2, 3]), bare([1, 2], [2, TOP_TIME]), bare([1, 2], limit=3), bare([1, 2, 3], [3, 4], limit=3),
+    # short blocks, of one time, with and without a gap before them
+    bare([1, 2], [2]), bare([1], [1, 2]), bare([1, 2], [3, 4]), bare([1, 2], [2, 3], limit=3), bare([5], [5], [5]),
+    bare([1], [2], [3]), bare([1], [1, 2], [2], [2, 3], [4]), bare([0], [0]), bare([TOP_TIME], [TOP_TIME]),
+    bare([0, TOP_TIME], [TOP_TIME]), bare([1, 2], [2], [2, 3], limit=65_535),
     one(1, 0, "00"), one(1, 0, "11"), one(1, 1, "12"), one(1, 2, "02"), one(1, 2, "08"), one(1, 2, "01"),
     one(1, 1, "01"), one(1, 0, "8101", range(9)), one(1, 0, "00 00 11 00"), one(2, 0, "00 03"),
     one(2, 1, "01 06"), one(2, 2, "02 48"), one(2, 2, "00 03"), one(4, 1, "04 0f 01 e4"),
@@ -226,6 +236,12 @@ ACCEPTED = [
     two(2, (1, "01 06"), (1, "04 03"), (2, "04 03"), (2, "04 01")), two(0, (0, "00 01"), (0, "01 00")),
     two(0, None, (0, "01")), offsets(1, 3, "00 01 00 01"), offsets(1, 0, "00 01"), offsets(0, 1, "00 01"),
     offsets(0, 0, ""),
+    # a class byte below that of a block before
+    two(1, (2, "00"), (1, "10")), two(1, (2, "00"), None, (1, "10")), two(2, (1, "01 06"), (0, "04 03")),
+    two(1, (1, "02"), (0, "11"), (2, "18"), (0, "10")),
+    # changes at index 0 of a later block
+    two(0, (0, "00"), (0, "00")), two(1, None, (0, "01")), two(1, None, (0, "11 00"), (0, "01 10")),
+    two(0, (0, "01 00"), (0, "00 00 01")), two(REAL, (0, "01" + ONE), (0, "00" + ONE + "01" + ONE)),
 ]
 REFUSED = [
     b"", made(2, [])[:15], made(2, []) + b"\0", edited(made(2, []), 12, 15), edited(made(2, []), 12, 17),
@@ -233,10 +249,11 @@ REFUSED = [
     edited(made(2, []), 0, 1), edited(made(2, []), 0, 65_537), edited(made(2, []), 0, 0x40000000),
     edited(made(2, [1]), 0, 0), made(2, [], count=1), made(2, [], count=2**32 - 1),
     # tables
-    bare([]), bare([1, 2], [2]), bare([1, 2], []), bare([1], [1, 2]), bare([1, 2], [3, 4]),
-    bare([1, 2], [1, 2]), bare([1, 2], [2, 2]), bare([1, 2], [2, 1]), bare([2, 1]), bare([1, 1]),
-    bare([1, 2, 3]), bare([1, 2], [2, 3], limit=3), bare([TOP_TIME, 0]), made(2, [], [((1, 2), [])], count=0),
-    made(2, [], [((1, 2), [])], count=2),
+    bare([]), bare([], [1]), bare([1, 2], []), bare([1], [], [2]), bare([1, 2], [1, 2]), bare([1, 2], [1]),
+    bare([2], [1]), bare([5], [5], [4]), bare([1, 2], [3], [2, 3]), bare([TOP_TIME], [0]), bare([1, 2], [2, 2]),
+    bare([1, 2], [2, 1]), bare([2, 1]), bare([1, 1]), bare([1, 2, 3]), bare([1, 2], [2, 3, 4], [4, 5]),
+    bare([1], [2, 3, 4]), bare([TOP_TIME, 0]), made(2, [], [((1, 2), [])], count=0),
+    made(2, [], [((1, 2), [])], count=2), made(2, [], [((1,), []), ((1,), [])], count=1),
     # a block's three numbers
     edited(bare([1, 2]), 16, 27), edited(bare([1, 2]), 16, 29), edited(bare([1, 2]), 16, 0),
     edited(bare([1, 2]), 16, 2**32 - 1), edited(bare([1, 2]), 20, 1), edited(bare([1, 2], limit=9), 20, 3),
@@ -245,8 +262,7 @@ REFUSED = [
     # class bytes
     one(1, 0, "02"), one(1, 1, "08"), one(1, 3, "08"), one(1, 255, "00"), one(2, 0, "01 06"),
     one(2, 1, "02 48"), one(2, 3, "00 03"), one(0, 1, "00"), one(REAL, 1, "00 0000000000000000"),
-    one(0, 2, "00"), two(1, (2, "00"), (1, "10")), two(1, (2, "00"), None, (1, "10")),
-    two(2, (1, "01 06"), (0, "04 03")), two(1, (0, "00"), (0, "12")),
+    one(0, 2, "00"), two(1, (0, "00"), (0, "12")), two(1, (2, "08"), (1, "18")), two(0, (0, "00"), (1, "00")),
     # streams
     one(1, 0, ""), one(0, 0, ""), one(REAL, 0, ""), one(ABSENT, 0, "00"), one(ABSENT, 2, "00"),
     one(ABSENT, 0, ""), one(0, 0, "02"), one(0, 0, "01 01"), one(1, 0, "21"), one(1, 0, "8101", range(8)),
@@ -258,7 +274,7 @@ REFUSED = [
     one(2, 2, "01 05"), one(2, 2, "02 23"), one(2, 2, "02 11"), one(2, 0, "00 07"), one(4, 0, "00 11"),
     one(3, 1, "01 86"), one(3, 2, "02 1182"), one(2, 2, "02 49"), one(2, 2, "02 98"), one(2, 0, "00"),
     one(9, 0, "00 01"), one(REAL, 0, "00 00000000000000"), one(REAL, 0, "00 0000000000000000 00"),
-    two(0, (0, "00"), (0, "00")), two(1, None, (0, "01")), two(1, None, (0, "11 00"), (0, "01 10")),
+    two(0, (0, "00"), (0, "02")), two(1, None, (0, "11 11")),
     # offsets
     offsets(1, 1, "00 01"), offsets(3, 1, "00 01 00 01"), offsets(2, 4, "00 00 01 00 01"),
     offsets(1, 5, "00 01 00 01"), offsets(1, 2, "00 01 00 01"), offsets(1, 6, "00 01 00 01"),
@@ -276,6 +292,110 @@ def by_hand(sheet):
                 around(sheet, image)
     for image in REFUSED[::6]:
         strangers(sheet, image)
+
+
+# Joined images.
+
+def joined(*images):
+    def both(first, second):
+        said, image = join(first, second, IMAGE_LIMIT)
+        assert said == f"joined {len(image)}", said
+        return image
+    return functools.reduce(both, images)
+
+
+def one_time_three_times(sheet):
+    """Each `time 5; vcd 0 "1"`: the time stands once, the events all."""
+    event = made(2, [EVENT], [((5,), [(0, "00")])])
+    image = joined(event, event, event)
+    assert len(image) == 98 and image == joined(event, joined(event, event))
+    sheet.ask("open", image, "yes")
+    sheet.ask("table 1", image, "times 1: 5")
+    sheet.ask("load 0 3 0", image, "entries 3 class 0: 0 0 0")
+    for block in range(3):
+        sheet.ask(f"stream {block} 0", image, "00")
+    sheet.ask("stream 3 0", image, "")
+    for time in (0, 4, 5, 6):
+        sheet.ask(f"cursor 0 {time} 0", image, f"entry {0 if time < 5 else 2} time 5 event")
+    rooms(sheet, image)
+
+
+def claim_before_the_seam(sheet):
+    """time 1, "1" on 0, time 5, raw claim 2 on 1; then time 5, "1" on 0, "11" on 1, time 9, "0" on 0.
+    C of signal 1 is the first class byte, not the last, and its second change a repeat."""
+    first = made(4, [1, 2], [((1, 5), [(0, "01"), (2, "04 03")])])
+    second = made(4, [1, 2], [((5, 9), [(0, "01 10"), (0, "00 03")])])
+    image = joined(first, second)
+    assert image == bytes.fromhex(
+        "02000000 04000000 02000000 6b000000 01000000 02000000"
+        "29000000 02000000 02000000 01000000 03000000 0100000000000000 0500000000000000 00 01 02 04 03"
+        "2a000000 02000000 02000000 01000000 04000000 0500000000000000 0900000000000000 00 01 10 00 00 03")
+    sheet.ask("open", image, "yes")
+    sheet.ask("table 3", image, "times 3: 1 5 9")
+    sheet.ask("load 0 2 2", image, "entries 2 class 0: 0 2 0100")
+    sheet.ask("load 1 1 2", image, "entries 1 class 2: 1 0003")
+    for block, streams in enumerate((("01", "0403"), ("0110", "0003"))):
+        for signal, stream in enumerate(streams):
+            sheet.ask(f"stream {block} {signal}", image, stream)
+    for time in (0, 1, 5, 8, 9, 10):
+        sheet.ask(f"cursor 0 {time} 1", image, "entry 0 time 1 class 0 1" if time < 9 else "entry 1 time 9 class 0 0")
+        sheet.ask(f"cursor 1 {time} 2", image, "entry 0 time 5 class 0 11")
+    rooms(sheet, image)
+
+
+def gap(sheet):
+    """time 1, "0", time 2; then time 7, "x": between 2 and 7 the first value stands."""
+    image = joined(made(2, [1], [((1, 2), [(0, "00")])]), made(2, [1], [((7,), [(1, "02")])]))
+    sheet.ask("open", image, "yes")
+    sheet.ask("table 3", image, "times 3: 1 2 7")
+    sheet.ask("load 0 2 2", image, "entries 2 class 1: 0 2 0042")
+    for time in (0, 1, 2, 3, 6):
+        sheet.ask(f"cursor 0 {time} 1", image, "entry 0 time 1 class 0 0")
+    for time in (7, 8, TOP_TIME):
+        sheet.ask(f"cursor 0 {time} 1", image, "entry 1 time 7 class 1 x")
+    rooms(sheet, image)
+
+
+def seams(sheet):
+    """No times in the second; repeats, reals and classes over several seams."""
+    empty = made(2, [1, REAL])
+    first = made(2, [1, REAL], [((3, 4), [(1, "12"), (0, "00" + ONE)])])
+    assert joined(first, empty) == first
+    again = made(2, [1, REAL], [((4,), [(1, "02"), (0, "00" + ONE)])])
+    sheet.ask("load 0 1 1", joined(first, again, again, empty, again), "entries 1 class 1: 1 42")
+    sheet.ask("load 1 1 8", joined(first, again, again, empty, again), "entries 1 class 0: 0 " + ONE)
+    other = made(2, [1, REAL], [((4, 5), [(2, "01"), (0, "01 0000000000000080")])])
+    image = joined(again, other, made(2, [1, REAL], [((9,), [(0, "01"), None])]))
+    sheet.ask("open", image, "yes")
+    sheet.ask("table 3", image, "times 3: 4 5 9")
+    sheet.ask("load 0 2 2", image, "entries 2 class 2: 0 0 4201")
+    sheet.ask("load 1 2 16", image, f"entries 2 class 0: 0 1 {ONE}0000000000000080")
+    rooms(sheet, image)
+    around(sheet, image)
+
+
+def turned_back():
+    """Of two conditions the earlier; no condition but these."""
+    first, second = made(2, [1], [((1, 2), [(0, "00")])]), made(2, [1], [((7,), [(1, "02")])])
+    empty, of_events, of_three = made(2, [1]), made(2, [EVENT]), made(3, [1])
+    total = len(first) + len(second) - 20
+    for one_image, other, room, said in (
+            (first[:-1], of_events, 999, "refused 11"), (first, second + b"\0", 0, "refused 11"),
+            (empty, of_events, 999, "refused 14"), (first, of_three, 0, "refused 14"),
+            (first, made(2, [1, 1]), 999, "refused 14"), (empty, empty, 999, "refused 15"),
+            (empty, first, 0, "refused 15"), (second, first, 999, "refused 16"), (second, first, 0, "refused 16"),
+            (first, first, 999, "refused 16"), (first, second, total - 1, "refused 8"),
+            (first, empty, len(first) - 1, "refused 8"), (first, empty, len(first), f"joined {len(first)}"),
+            (first, second, total, f"joined {total}")):
+        assert join(one_image, other, room)[0] == said, said
+
+
+def joins(sheet):
+    turned_back()
+    one_time_three_times(sheet)
+    claim_before_the_seam(sheet)
+    gap(sheet)
+    seams(sheet)
 
 
 # Damaged images.
@@ -347,8 +467,24 @@ def sources():
     return [image for image in images if 40 <= len(image) <= 150]
 
 
-def damaged(sheet, rng, count):
-    images = sources()
+def later(image, step):
+    """The same with all times moved, so that it starts a step after its end."""
+    read = read_image(image)
+    times = combined(read)[0]
+    by = times[-1] + step - times[0]
+    blocks = [([time + by for time in block.times], [part and (part.top, part.stream.hex()) for part in block.parts])
+              for block in read.blocks]
+    return made(read.limit, read.kinds, blocks) if times[-1] + by <= TOP_TIME else None
+
+
+def joined_sources():
+    """Each joined with itself later, at its end and after it."""
+    images = [image for image in sources() if len(image) <= 110 and read_image(image).blocks]
+    pairs = [(image, later(image, number % 3)) for number, image in enumerate(images)]
+    return [joined(image, second) for image, second in pairs if second]
+
+
+def damaged(sheet, rng, images, count):
     seen = set(images)
     for image in damages(rng, images):
         if image in seen:
@@ -365,18 +501,18 @@ def damaged(sheet, rng, count):
 def main():
     mode, *rest = sys.argv[1:]
     if mode == "damaged":
-        images = damages(random.Random(int(rest[0])), sources())
+        images = damages(random.Random(int(rest[0])), sources() + joined_sources())
         for _ in range(int(rest[1])):
             print("open", next(images).hex())
         return
     rng, sheet = random.Random(SEED), Sheet()
     bench(sheet)
     by_hand(sheet)
-    lines = (HERE / "recordings.out").read_text().splitlines()
-    for line in [line for line in lines if line.startswith("image ")][7:55]:
-        rooms(sheet, bytes.fromhex(line[6:]))
+    joins(sheet)
     recordings(sheet, rng)
-    damaged(sheet, rng, 300)
+    damaged(sheet, rng, sources(), 300)
+    damaged(sheet, rng, joined_sources(), 50)
+    assert sum(len(question) + 1 for question in sheet.questions) <= QUESTIONS
     print(*getattr(sheet, mode), sep="\n")
 
 

@@ -1,11 +1,11 @@
 #!/usr/bin/env python3
-"""The reader of document 01, from the written rules alone: opener, stream part, loading, combined table, cursor.
+"""The reader of document 01, with document 02's joins, from the written rules alone: opener, stream part, loading,
+combined table, cursor.
 
   reader.py            answers the questions on standard input
   reader.py loads      reads the lines `image HEX` among those of standard input, and prints what
                        `oracle loads` prints of their recordings
   reader.py blocks     the same, and prints what `oracle blocks` prints
-  reader.py replayed   checks the opener of all questions' images by a recording: see `left_by_a_list`
 
 One question a line, words parted by one space; an empty image leaves its space at the line's end,
 and `-` stands for the image of the line before.
@@ -22,7 +22,7 @@ import sys
 from dataclasses import dataclass, field
 
 from model import BITS, LETTERS, class_of, length, pack
-from recorder import ABSENT, EVENT, IMAGE_LIMIT, REAL, Recorder, Refused, refuse, too_wide
+from recorder import ABSENT, EVENT, IMAGE_LIMIT, REAL, Refused, refuse, too_wide
 
 KINDS = {0xFFFFFFFE: REAL, 0xFFFFFFFF: ABSENT}
 
@@ -117,8 +117,7 @@ def classes(changes):
     return [class_of(change.content) if isinstance(change.content, tuple) else 0 for change in changes]
 
 
-def read_part(offset, data, kind, first, times, top):
-    """`first` is the least index, `top` the signal's class so far."""
+def read_part(offset, data, kind, times):
     demand(kind != ABSENT)
     data = Bytes(data)
     claim = data.number(1)
@@ -127,15 +126,14 @@ def read_part(offset, data, kind, first, times, top):
     while data.left():
         delta, content = read_change(data, kind)
         index += delta
-        demand(first <= index < times)
+        demand(index < times)
         changes.append(Change(index, content))
     demand(changes)
-    least = max(top, *classes(changes), 0)
-    demand(least <= claim <= (0 if kind in (EVENT, REAL) else 2))
+    demand(max(classes(changes)) <= claim <= (0 if kind in (EVENT, REAL) else 2))
     return Part(offset, claim, stream, changes)
 
 
-def read_parts(offsets, data, kinds, first, times, tops):
+def read_parts(offsets, data, kinds, times):
     """By number, without gaps, the first at the start of the data."""
     places = [offset - 1 for offset in offsets if offset]
     ends = places[1:] + [len(data)]
@@ -148,28 +146,26 @@ def read_parts(offsets, data, kinds, first, times, tops):
             parts.append(None)
             continue
         start, end = next(spans)
-        parts.append(read_part(offset, data[start:end], kinds[signal], first, times, tops[signal]))
-        tops[signal] = parts[-1].top
+        parts.append(read_part(offset, data[start:end], kinds[signal], times))
     return parts
 
 
-def read_block(data, image, tops, last):
+def read_block(data, image):
+    """Each block by itself is one that a recording can leave first; it starts at or after the end before it."""
     size, times, signals = (data.number(4) for _ in range(3))
-    later = image.blocks[-1] if image.blocks else None
-    demand(signals == len(image.kinds), times <= image.limit)
-    demand(times >= (2 if later else 1), last or times == image.limit)
+    demand(signals == len(image.kinds), 1 <= times <= image.limit)
     demand(12 + 4 * signals + 8 * times <= size, size - 12 <= data.left())
     offsets = [data.number(4) for _ in range(signals)]
     block = Block([data.number(8) for _ in range(times)])
     demand(all(a < b for a, b in zip(block.times, block.times[1:])))
-    demand(not later or later.times[-1] == block.times[0])
+    demand(not image.blocks or image.blocks[-1].times[-1] <= block.times[0])
     rest = data.take(size - 12 - 4 * signals - 8 * times)
-    block.parts = read_parts(offsets, rest, image.kinds, 1 if later else 0, times, tops)
+    block.parts = read_parts(offsets, rest, image.kinds, times)
     return block
 
 
 def read_image(image):
-    """11 if no recording leaves these bytes."""
+    """11 if these bytes are left by no list of calls and joined from no accepted images."""
     data = Bytes(image)
     signals, limit, blocks, total = (data.number(4) for _ in range(4))
     demand(total == len(image), total <= IMAGE_LIMIT, 2 <= limit <= 65_535, signals <= 65_536)
@@ -177,9 +173,8 @@ def read_image(image):
     kinds = [KINDS.get(number, number) for number in numbers]
     demand(not any(map(too_wide, kinds)))
     read = Image(limit, kinds, [])
-    tops = [0] * signals
-    for number in range(blocks):
-        read.blocks.append(read_block(data, read, tops, number + 1 == blocks))
+    for _ in range(blocks):
+        read.blocks.append(read_block(data, read))
     demand(data.left() == 0)
     return read
 
@@ -280,87 +275,6 @@ def cursor(image, signal, time, room):
     return number, times[index], content
 
 
-# A second reading of the opener: a recording is read off the bytes by no rule but the layout, made on
-# the recorder, and the image that it leaves is compared with them.
-
-def loose_number(data):
-    """LEB128, shortest or not."""
-    value = shift = 0
-    while True:
-        byte = data.take(1)[0]
-        value += byte % 128 << shift
-        shift += 7
-        if byte < 128:
-            return value
-
-
-def loose_change(data, kind):
-    """d and the content, whatever the symbols are."""
-    number = loose_number(data)
-    if kind == EVENT:
-        return number, None
-    if kind == REAL:
-        return number, data.take(8)
-    if kind == 1:
-        return number // 16, (number % 16,)
-    bits = BITS[number % 4]
-    packed = int.from_bytes(data.take(length(kind, number % 4)), "big")
-    return number // 4, tuple(packed >> bits * place & (1 << bits) - 1 for place in reversed(range(kind)))
-
-
-def loosely(image):
-    """Kinds, limit, and per block the times and the parts, as far as the bytes can be walked."""
-    data = Bytes(image)
-    signals, limit, blocks, _ = (data.number(4) for _ in range(4))
-    kinds = [KINDS.get(number, number) for number in (data.number(4) for _ in range(signals))]
-    out = []
-    for _ in range(blocks):
-        size, times, signals_here = (data.number(4) for _ in range(3))
-        offsets = [data.number(4) for _ in range(signals_here)]
-        times = [data.number(8) for _ in range(times)]
-        rest = data.take(max(size - 12 - 4 * len(offsets) - 8 * len(times), 0))
-        places = [offset - 1 for offset in offsets if offset] + [len(rest)]
-        parts = []
-        for signal, offset in enumerate(offsets):
-            if not offset:
-                continue
-            demand(signal < len(kinds), not too_wide(kinds[signal]), kinds[signal] != ABSENT)
-            place = places.pop(0)
-            piece = Bytes(rest[place:places[0]])
-            claim, index, changes = piece.number(1), 0, []
-            while piece.left():
-                delta, content = loose_change(piece, kinds[signal])
-                index += delta
-                changes.append((index, content))
-            parts.append((signal, claim, changes))
-        out.append((times, parts))
-    return limit, kinds, out
-
-
-def left_by_a_list(image):
-    """Each vector's change is a raw one that claims the class byte of its part."""
-    try:
-        limit, kinds, blocks = loosely(image)
-        recorder = Recorder()
-        recorder.start(len(kinds), limit, kinds)
-        for number, (times, parts) in enumerate(blocks):
-            for index, time in enumerate(times):
-                if number == 0 or index > 0:
-                    recorder.time(time)
-                for signal, claim, changes in parts:
-                    for _, content in (change for change in changes if change[0] == index):
-                        if content is None:
-                            recorder.change(signal, "vcd", b"")
-                        elif isinstance(content, bytes):
-                            recorder.change(signal, "real", int.from_bytes(content, "little"))
-                        else:
-                            recorder.change(signal, "raw", claim, pack(content, claim))
-        recorder.finish()
-        return recorder.image_left() == image
-    except (Refused, OverflowError, IndexError):  # refused, or no such class, or symbols above the claim
-        return False
-
-
 # Lines.
 
 def line_of(head, numbers, data=b""):
@@ -441,7 +355,7 @@ def blocks(image):
 
 def main():
     mode = sys.argv[1] if len(sys.argv) > 1 else "answers"
-    image, images = b"", {}
+    image = b""
     for line in sys.stdin:
         line = line.rstrip("\n")
         if mode in ("loads", "blocks"):
@@ -449,13 +363,7 @@ def main():
                 print(*(loads if mode == "loads" else blocks)(bytes.fromhex(line[6:])), sep="\n")
             continue
         words, image = question(line, image)
-        if mode == "answers":
-            print(answer(words, image))
-        elif image not in images:
-            images[image] = opens(image)
-            assert images[image] == left_by_a_list(image), line
-    if mode == "replayed":
-        print(len(images), "images,", sum(images.values()), "accepted; a recording leaves exactly these")
+        print(answer(words, image))
 
 
 if __name__ == "__main__":

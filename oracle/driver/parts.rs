@@ -1,4 +1,5 @@
-//! Where the Rust and document 01 part, each place by its smallest input. docs/DIFFERENCES.md has the table; `selftest` runs it.
+//! Where the Rust parts from document 01, and at joins from document 02, each place by its smallest input. docs/DIFFERENCES.md has the tables;
+//! `selftest` runs them.
 
 use super::*;
 
@@ -133,8 +134,64 @@ fn reading() {
     );
 }
 
+fn timed(tpe: SignalEncoding, times: &[Time]) -> Encoder {
+    let mut encoder = encoder(tpe, 0);
+    times.iter().for_each(|time| encoder.time_change(*time));
+    encoder
+}
+
+/// What document 02 refuses at a join with 15 and 16, and what it takes.
+fn appending() {
+    let bit = SignalEncoding::BitVector(1);
+    let panics_at = |first: &[Time], second: &[Time]| {
+        let mut first = timed(bit, first);
+        let panicked = panics(|| first.append(timed(bit, second)));
+        (panicked, first.blocks.len())
+    };
+    assert_eq!(panics_at(&[], &[5]), (true, 0), "the first has no block");
+    assert_eq!(panics_at(&[], &[]), (true, 0), "neither has a block");
+    assert_eq!(panics_at(&[5], &[4]), (true, 1), "order, the first cut");
+    assert_eq!(panics_at(&[5], &[5]), (false, 2), "an equal time");
+    assert_eq!(panics_at(&[5], &[]), (false, 1), "the second is empty");
+
+    let mut first = timed(bit, &[1]);
+    first.append(timed(bit, &[5]));
+    first.time_change(2);
+    assert_eq!(first.time_table, [1, 2], "goes on at the first's end");
+    assert!(panics(|| _ = first.finish()), "a table that falls");
+}
+
+/// What document 02 refuses with 14: signals are not compared.
+fn appending_unlike() {
+    let bit = SignalEncoding::BitVector(1);
+    let mut events = timed(EVENT, &[1]);
+    let mut other = timed(bit, &[1]);
+    other.vcd_value_change(0, b"1");
+    events.append(other);
+    let reader = Reader {
+        blocks: events.blocks,
+    };
+    let shown = reader.load_signal(only_signal(), EVENT);
+    assert_eq!(
+        shown.time_indices(),
+        [1],
+        "a bit read as an event, past the table"
+    );
+
+    let mut one = timed(bit, &[1]);
+    let mut none = timed(bit, &[]);
+    none.signals.clear();
+    none.time_change(1);
+    one.append(none);
+    let reader = Reader { blocks: one.blocks };
+    let load = || _ = reader.load_signal(only_signal(), bit);
+    assert!(panics(load), "a block without the signal");
+}
+
 pub(super) fn selftest() {
     calls();
     numbers();
     reading();
+    appending();
+    appending_unlike();
 }

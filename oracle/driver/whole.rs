@@ -64,7 +64,7 @@ pub struct Loaded {
     pub values: Vec<String>,
 }
 
-/// What the Rust makes of a recording.
+/// What the Rust makes of a recording, or of recordings appended.
 pub struct Whole {
     /// One for each time or change.
     pub answers: Vec<&'static str>,
@@ -114,7 +114,17 @@ fn loads(mut source: SignalSource, reader: &Reader, kinds: &[Kind]) -> Vec<Optio
     out
 }
 
-fn run(limit: u16, kinds: &[u32], steps: &[Step]) -> Whole {
+/// What the Rust holds after the calls of a recording, or after an append. It has not finished.
+#[derive(Clone)]
+pub struct Made {
+    limit: u16,
+    kinds: Vec<u32>,
+    encoder: Encoder,
+    /// One for each time or change; none after an append.
+    answers: Vec<&'static str>,
+}
+
+fn made_by(limit: u16, kinds: &[u32], steps: &[Step]) -> Made {
     let parts: Vec<Kind> = kinds.iter().map(|kind| kind_of(*kind)).collect();
     let mut encoder = start(limit, &parts);
     let mut answers = Vec::new();
@@ -128,23 +138,61 @@ fn run(limit: u16, kinds: &[u32], steps: &[Step]) -> Whole {
             Step::Finish => continue,
         });
     }
-    let reader = Reader {
-        blocks: finish(encoder.clone()),
-    };
-    let (source, table) = encoder.finish();
-    Whole {
+    Made {
+        limit,
+        kinds: kinds.to_vec(),
+        encoder,
         answers,
-        image: image(kinds, &reader.blocks),
-        streams: reader.blocks.iter().map(streams).collect(),
-        table,
-        loads: loads(source, &reader, &parts),
+    }
+}
+
+/// Nothing if the Rust panics.
+fn unless_panics<T>(run: impl FnOnce() -> T) -> Option<T> {
+    let mut out = None;
+    (!panics(|| out = Some(run()))).then(|| out.unwrap())
+}
+
+/// Nothing if the Rust panics.
+pub fn made(limit: u16, kinds: &[u32], steps: &[Step]) -> Option<Made> {
+    unless_panics(|| made_by(limit, kinds, steps))
+}
+
+impl Made {
+    /// `Encoder::append`. Nothing if the Rust panics.
+    pub fn appended(&self, other: &Made) -> Option<Made> {
+        let (mut first, second) = (self.clone(), other.clone());
+        first.answers.clear();
+        unless_panics(|| {
+            first.encoder.append(second.encoder);
+            first
+        })
+    }
+
+    fn finished(self) -> Whole {
+        let parts: Vec<Kind> = self.kinds.iter().map(|kind| kind_of(*kind)).collect();
+        set_block_limit(self.limit);
+        let reader = Reader {
+            blocks: finish(self.encoder.clone()),
+        };
+        let (source, table) = self.encoder.finish();
+        Whole {
+            answers: self.answers,
+            image: image(&self.kinds, &reader.blocks),
+            streams: reader.blocks.iter().map(streams).collect(),
+            table,
+            loads: loads(source, &reader, &parts),
+        }
+    }
+
+    /// Nothing if the Rust panics.
+    pub fn whole(self) -> Option<Whole> {
+        unless_panics(|| self.finished())
     }
 }
 
 /// Nothing if the Rust panics.
 pub fn whole(limit: u16, kinds: &[u32], steps: &[Step]) -> Option<Whole> {
-    let mut out = None;
-    (!panics(|| out = Some(run(limit, kinds, steps)))).then(|| out.unwrap())
+    made(limit, kinds, steps)?.whole()
 }
 
 /// A recording's limit, kinds and calls.

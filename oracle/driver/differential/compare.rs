@@ -220,7 +220,7 @@ pub fn read(image: &[u8], kinds: &[u32], history: &History, random: &mut Random,
 }
 
 /// What the Rust made and loaded, held against the image that ours left and the history that ours loaded as.
-fn rust(rust: &Whole, image: &[u8], kinds: &[u32], history: &History) -> Compared {
+pub fn rust(rust: &Whole, image: &[u8], kinds: &[u32], history: &History) -> Compared {
     none(
         "image of ours and of the Rust",
         difference("image byte", image, &rust.image),

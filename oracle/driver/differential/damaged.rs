@@ -1,22 +1,20 @@
-//! Damaged images: the opener must accept what the reading of opener.rs accepts. An accepted one is loaded, recorded again on both sides, and
-//! compared; of a refused one nothing can be read.
+//! Damaged images: the opener must accept what the reading of opener.rs accepts. An accepted one is loaded, recorded again on both sides, block
+//! by block, and joined again; of a refused one nothing can be read.
 
-use crate::compare::{Compared, Tally, agree, read, recording};
-use crate::generate::{Generator, kinds, small_kind};
+use crate::compare::{Compared, Tally, agree, read};
+use crate::generate::{Generator, kinds, restarts, small_kind};
+use crate::join::{joined, u32_at};
+use crate::joins::{appended, recorded};
 use crate::memory::{BYTE, NUMBER, Recording, TIME};
 use crate::opener::opened;
 use crate::ours::{self, Source};
 use crate::random::Random;
-use wellen::oracle::whole::{Step, whole};
+use wellen::oracle::whole::whole;
 
 #[derive(Default)]
 pub struct Damaged {
     pub images: u64,
     pub accepted: u64,
-}
-
-fn u32_at(image: &[u8], at: usize) -> u32 {
-    u32::from_le_bytes(image[at..at + 4].try_into().unwrap())
 }
 
 fn put(image: &mut [u8], at: usize, number: u32) {
@@ -57,11 +55,11 @@ fn judged(image: &[u8], random: &mut Random, tally: &mut Tally, seen: &mut Damag
     seen.images += 1;
     let expected = opened(image);
     agree(
-        "opener of ours and of document 01",
+        "opener of ours and of the papers",
         ours::open(image),
         expected.is_some(),
     )?;
-    let Some((r, history)) = expected else {
+    let Some((recordings, history)) = expected else {
         if seen.images % 16 == 0 {
             stranger(image)?;
             tally.reader_refusals += 3;
@@ -69,9 +67,21 @@ fn judged(image: &[u8], random: &mut Random, tally: &mut Tally, seen: &mut Damag
         return Ok(());
     };
     seen.accepted += 1;
-    read(image, &r.kinds, &history, random, tally)?;
-    let again = recording(&r, 1, random, tally)?;
-    agree("image recorded again", &again[..], image)
+    read(image, &recordings[0].kinds, &history, random, tally)?;
+    agree("image recorded again", &again(&recordings, random, tally)?[..], image)
+}
+
+/// Recordings made by ours and by the Rust, joined by ours and appended by the Rust.
+fn again(recordings: &[Recording], random: &mut Random, tally: &mut Tally) -> Result<Vec<u8>, String> {
+    let mut all = recorded(&recordings[0], random, tally)?;
+    for r in &recordings[1..] {
+        let next = recorded(r, random, tally)?;
+        let mut out = vec![BYTE; all.image.len() + next.image.len()];
+        let total = ours::join(&all.image, &next.image, &mut out).map_err(|number| format!("join again: {number}"))?;
+        out.truncate(total as usize);
+        all = appended(&all, &next, out, random, tally)?;
+    }
+    Ok(all.image)
 }
 
 /// Every bit turned, every cut, bytes put in and taken out everywhere, every field at values that matter.
@@ -157,25 +167,41 @@ fn double_edit(image: &[u8], random: &mut Random) -> Vec<u8> {
     other
 }
 
+/// What a recording leaves.
+fn left(r: &Recording) -> Vec<u8> {
+    whole(r.limit, &r.kinds, &r.steps).expect("no refusal").image
+}
+
+/// One recording, often of several blocks.
+fn lone(random: &mut Random) -> Vec<u8> {
+    let limit = random.of(&[2, 2, 3, 3, 5, 65_535]);
+    let kinds = kinds(random, small_kind);
+    let calls = random.from_to(2, 16);
+    let mut generator = Generator::new(random, kinds);
+    let steps = generator.calls(calls, 40);
+    left(&Recording {
+        limit,
+        kinds: generator.kinds,
+        steps,
+    })
+}
+
+/// Two or three recordings joined, as far as they can be.
+fn several(random: &mut Random) -> Vec<u8> {
+    let count = random.from_to(2, 3);
+    let images = restarts(random, count).iter().map(left).collect::<Vec<_>>();
+    let both = |first: Vec<u8>, second: Vec<u8>| joined(&first, &second, usize::MAX).unwrap_or(second);
+    images.into_iter().reduce(both).expect("two or more")
+}
+
 /// A small sound image.
 fn sound(random: &mut Random) -> Vec<u8> {
     loop {
-        let limit = random.of(&[2, 2, 3, 3, 5, 65_535]);
-        let kinds = kinds(random, small_kind);
-        let calls = random.from_to(2, 16);
-        let mut generator = Generator::new(random, kinds.clone());
-        let call = |generator: &mut Generator| {
-            let time = generator.last.is_none() || generator.random.chance(40);
-            if time {
-                generator.time(false)
-            } else {
-                generator.change()
-            }
+        let image = if random.chance(50) {
+            lone(random)
+        } else {
+            several(random)
         };
-        let mut steps: Vec<Step> = (0..calls).map(|_| call(&mut generator)).collect();
-        steps.push(Step::Finish);
-        let r = Recording { limit, kinds, steps };
-        let image = whole(r.limit, &r.kinds, &r.steps).expect("no refusal").image;
         if image.len() <= 150 {
             return image;
         }

@@ -35,6 +35,8 @@ pub struct Generator<'a> {
     pub kinds: Vec<u32>,
     pub last: Option<u64>,
     pub skip: bool,
+    /// The last time of the recording before.
+    end: Option<u64>,
     /// A signal's last content.
     content: HashMap<usize, Content>,
 }
@@ -46,11 +48,26 @@ impl<'a> Generator<'a> {
             kinds,
             last: None,
             skip: false,
+            end: None,
             content: HashMap::new(),
         }
     }
 
+    /// A new recording. Contents are kept, so that the first values are often repeats.
+    pub fn restart(&mut self) {
+        self.end = self.last.or(self.end);
+        (self.last, self.skip) = (None, false);
+    }
+
     fn first_time(&mut self) -> u64 {
+        if let Some(end) = self.end {
+            return match self.random.below(20) {
+                0..9 => end,
+                9..17 => self.later(end),
+                17 => end.saturating_sub(1),
+                _ => self.earlier(end),
+            };
+        }
         match self.random.below(5) {
             0 => 0,
             1 => 1,
@@ -110,6 +127,17 @@ impl<'a> Generator<'a> {
             width => self.vector(signal, width),
         };
         Step::Change(signal as u32, value)
+    }
+
+    /// So many times and changes, `share` of a hundred being times, and a finish.
+    pub fn calls(&mut self, count: usize, share: usize) -> Vec<Step> {
+        let mut steps = Vec::new();
+        for _ in 0..count {
+            let time = self.last.is_none() || self.random.chance(share);
+            steps.push(if time { self.time(false) } else { self.change() });
+        }
+        steps.push(Step::Finish);
+        steps
     }
 
     /// In a skip nothing is looked at: any signal, any value.
@@ -299,21 +327,55 @@ pub fn recording(random: &mut Random) -> Recording {
     let calls = if random.chance(1) { 0 } else { random.from_to(6, 38) };
     let share = random.of(&[25, 40, 60]);
     let mut generator = Generator::new(random, kinds);
-    let mut steps = Vec::new();
-    for _ in 0..calls {
-        let time = generator.last.is_none() || generator.random.chance(share);
-        steps.push(if time {
-            generator.time(false)
-        } else {
-            generator.change()
-        });
-    }
-    steps.push(Step::Finish);
+    let steps = generator.calls(calls, share);
     Recording {
         limit,
         kinds: generator.kinds,
         steps,
     }
+}
+
+/// Some calls, none at all or a single time among the cases.
+fn short(generator: &mut Generator, limit: u16) -> Recording {
+    let calls = generator.random.of(&[0, 1, 1, 2, 4, 7, 10, 14]);
+    let share = generator.random.of(&[25, 40, 60]);
+    Recording {
+        limit,
+        steps: generator.calls(calls, share),
+        kinds: generator.kinds.clone(),
+    }
+}
+
+/// A recording that cannot be joined with those of the generator: another B, another S or another kind.
+fn unlike(generator: &mut Generator, limit: u16) -> Recording {
+    let (mut limit, mut kinds, end) = (limit, generator.kinds.clone(), generator.end);
+    let at = generator.random.below(kinds.len());
+    match generator.random.below(4) {
+        0 => limit = if limit == 2 { 3 } else { limit - 1 },
+        1 => kinds.push(small_kind(generator.random)),
+        2 => kinds.truncate(kinds.len() - 1),
+        _ => kinds[at] = small_kind(generator.random),
+    }
+    let mut other = Generator::new(generator.random, kinds);
+    other.end = end;
+    short(&mut other, limit)
+}
+
+/// Recordings of one unit that starts again and again: each begins at the end before it, later, or now and then earlier.
+pub fn restarts(random: &mut Random, count: usize) -> Vec<Recording> {
+    let limit = random.of(&[2, 2, 2, 3, 3, 4, 6, 65_535]);
+    let kinds = kinds(random, small_kind);
+    let mut generator = Generator::new(random, kinds);
+    let mut recordings = Vec::new();
+    for _ in 0..count {
+        generator.restart();
+        recordings.push(if generator.random.chance(7) {
+            unlike(&mut generator, limit)
+        } else {
+            short(&mut generator, limit)
+        });
+    }
+    recordings
 }
 
 /// Real cuts at 65,535 times, changes close to the cuts and far apart.

@@ -1,10 +1,12 @@
-//! Document 01, 'History': what a list of calls says, told of the calls and of which were refused, never of the state.
+//! Document 01, 'History': what a list of calls says, told of the calls and of which were refused, never of the state; and document 02's "one
+//! history after the other".
 
-use crate::memory::Answer;
+use crate::memory::{Answer, Recording};
 use crate::paper::decode;
 use crate::value::{Content, entry_bytes};
 use wellen::oracle::whole::Step;
 
+#[derive(Clone)]
 pub struct Change {
     pub place: u32,
     pub content: Content,
@@ -12,6 +14,7 @@ pub struct Change {
     class: u32,
 }
 
+#[derive(Clone)]
 pub struct History {
     kinds: Vec<u32>,
     pub times: Vec<u64>,
@@ -37,6 +40,31 @@ impl History {
             skip: false,
             count: 0,
         }
+    }
+
+    /// Of a recording without a refusal.
+    pub fn of(r: &Recording) -> Self {
+        let mut history = History::new(&r.kinds);
+        for step in &r.steps {
+            history.tell(step, false);
+        }
+        history
+    }
+
+    /// This one, then another that starts at or after its end: "if the times are equal, the combined table has that time once". Of a join
+    /// nobody asks for a skip.
+    pub fn followed(&self, other: &History) -> History {
+        let mut all = self.clone();
+        let shared = usize::from(!other.times.is_empty() && self.times.last() == other.times.first());
+        let base = (self.times.len() - shared) as u32;
+        all.times.extend(&other.times[shared..]);
+        for (list, more) in all.changes.iter_mut().zip(&other.changes) {
+            list.extend(more.iter().map(|change| Change {
+                place: base + change.place,
+                ..change.clone()
+            }));
+        }
+        all
     }
 
     /// The answer, where it is no refusal and no finish.

@@ -2,6 +2,7 @@
 
 use crate::compare::{Compared, Tally, agree, recording};
 use crate::generate::{Generator, REALS, long};
+use crate::join::u32_at;
 use crate::memory::{Answer, Record, Recording, State};
 use crate::ours::{self, Source};
 use crate::paper::IMAGE_LIMIT;
@@ -9,23 +10,27 @@ use crate::random::Random;
 use crate::refusals::Refusals;
 use wellen::oracle::whole::{ABSENT, REAL, Step, Value};
 
-/// Widths around the limit, in all classes and notations, over several blocks.
-fn wide(random: &mut Random) -> Recording {
+/// Widths around the limit, in all classes and notations, over several blocks; so many recordings one after the other.
+fn wide(random: &mut Random, count: usize) -> Vec<Recording> {
     let width = random.of(&[65_536, 65_536, 65_535, 65_533]);
     let limit = random.of(&[2, 65_535]);
     let mut generator = Generator::new(random, vec![width, 1]);
-    let mut steps = Vec::new();
-    for _ in 0..5 {
-        steps.push(generator.time(true));
-        steps.push(generator.change());
-        steps.push(generator.change());
-    }
-    steps.push(Step::Finish);
-    Recording {
-        limit,
-        kinds: generator.kinds,
-        steps,
-    }
+    let recording = |_| {
+        generator.restart();
+        let mut steps = Vec::new();
+        for _ in 0..5 {
+            steps.push(generator.time(true));
+            steps.push(generator.change());
+            steps.push(generator.change());
+        }
+        steps.push(Step::Finish);
+        Recording {
+            limit,
+            kinds: generator.kinds.clone(),
+            steps,
+        }
+    };
+    (0..count).map(recording).collect()
 }
 
 /// Every special real after every other, and repeated across a cut.
@@ -47,6 +52,17 @@ fn reals(limit: u16) -> Recording {
     }
 }
 
+fn at_times(limit: u16, times: &[u64]) -> Recording {
+    let calls = times
+        .iter()
+        .flat_map(|time| [Step::Time(*time), Step::Change(0, Value::Vcd(b"1x".to_vec()))]);
+    Recording {
+        limit,
+        kinds: vec![2],
+        steps: calls.chain([Step::Finish]).collect(),
+    }
+}
+
 /// Times at the top, with equal and earlier ones between.
 fn late(limit: u16) -> Recording {
     let top = u64::MAX;
@@ -65,28 +81,21 @@ fn late(limit: u16) -> Recording {
         0,
         top,
     ];
-    let calls = times
-        .iter()
-        .flat_map(|time| [Step::Time(*time), Step::Change(0, Value::Vcd(b"1x".to_vec()))]);
-    Recording {
-        limit,
-        kinds: vec![2],
-        steps: calls.chain([Step::Finish]).collect(),
-    }
+    at_times(limit, &times)
 }
 
-/// 65,536 signals, changes on the first and the last.
-fn many() -> Recording {
+/// 65,536 signals, changes on the first and the last, from this time on.
+fn many(first: u64) -> Recording {
     let bit = |signal: u32, value: &[u8]| Step::Change(signal, Value::Vcd(value.to_vec()));
     Recording {
         limit: 2,
         kinds: (0..65_536).map(|n| if n % 3 == 1 { ABSENT } else { 1 }).collect(),
         steps: vec![
-            Step::Time(1),
+            Step::Time(first),
             bit(0, b"1"),
             bit(65_535, b"x"),
-            Step::Time(2),
-            Step::Time(3),
+            Step::Time(first + 1),
+            Step::Time(first + 2),
             bit(65_535, b"x"),
             Step::Finish,
         ],
@@ -98,15 +107,31 @@ pub fn recordings(random: &mut Random, longs: usize, tally: &mut Tally) -> Compa
         recording(&late(limit), 1, random, tally).map_err(|e| format!("late times: {e}"))?;
         recording(&reals(limit), 1, random, tally).map_err(|e| format!("reals: {e}"))?;
     }
-    recording(&many(), 1, random, tally).map_err(|e| format!("65,536 signals: {e}"))?;
+    recording(&many(1), 1, random, tally).map_err(|e| format!("65,536 signals: {e}"))?;
     for _ in 0..12 {
-        recording(&wide(random), 1, random, tally).map_err(|e| format!("wide: {e}"))?;
+        recording(&wide(random, 1)[0], 1, random, tally).map_err(|e| format!("wide: {e}"))?;
     }
     for _ in 0..longs {
         let r = long(random);
         recording(&r, 4096, random, tally).map_err(|e| format!("long: {e}"))?;
     }
     Ok(())
+}
+
+/// Recordings at the limits, one after the other: one time, the last times, 65,536 signals, B times and the widest vectors.
+pub fn restarted(random: &mut Random, wides: usize) -> Vec<Vec<Recording>> {
+    let top = u64::MAX;
+    let last = u64::from(u16::MAX) - 1;
+    let full: Vec<u64> = (0..=last).collect();
+    let mut all = vec![
+        vec![at_times(2, &[5]); 4],
+        vec![at_times(2, &[0]), at_times(2, &[0, top]), at_times(2, &[top])],
+        vec![late(3), at_times(3, &[top]), at_times(3, &[top, top, 0])],
+        vec![many(1), many(3)],
+        vec![at_times(65_535, &full), at_times(65_535, &[last, last + 2])],
+    ];
+    all.extend((0..wides).map(|_| wide(random, 2)));
+    all
 }
 
 // Mapped memory.
@@ -261,6 +286,32 @@ pub fn largest_image(accepted_too: bool) -> Compared {
     let small = mapped.bytes(1000);
     put_events(small);
     agree("the same image, small", ours::open(small), true)
+}
+
+/// Joins to a total of the limit, and to one byte more: 8. `whole`: to nearly twice the limit too.
+pub fn joined_total(whole: bool, tally: &mut Refusals) -> Compared {
+    let (mut mapped, mut out) = (Mapped::new(MOST), Mapped::new(2 * MOST));
+    let first = mapped.bytes(MOST - 26);
+    put_events(first);
+    let (mut second, mut longer) = ([0; 46], [0; 47]);
+    put_events(&mut second);
+    put_events(&mut longer);
+    let over: [(&[u8], bool); 2] = [(&longer, true), (first, whole)];
+    for (second, _) in over.into_iter().filter(|(_, asked)| *asked) {
+        let answer = ours::join(first, second, out.bytes(2 * MOST));
+        agree("join over the limit", answer, Err(8))?;
+        tally.count(&["8 joined image over the limit"]);
+        agree("pages touched", out.touched(), 0)?;
+    }
+    let out = out.bytes(MOST + 1);
+    out[MOST] = 7;
+    let answer = ours::join(first, &second, out);
+    agree("join at the limit", answer, Ok(MOST as u32))?;
+    agree("S and B", &out[..8], &first[..8])?;
+    agree("N and total", (u32_at(out, 8), u32_at(out, 12)), (2, MOST as u32))?;
+    agree("first image", out[16..first.len()] == first[16..], true)?;
+    let end = [&second[20..], &[7]].concat();
+    agree("second image and a byte past it", &out[first.len()..], &end[..])
 }
 
 /// "32 bits, then the count stays at its top".

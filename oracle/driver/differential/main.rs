@@ -4,6 +4,8 @@ mod compare;
 mod damaged;
 mod generate;
 mod history;
+mod join;
+mod joins;
 mod limits;
 mod memory;
 mod opener;
@@ -16,6 +18,7 @@ mod values;
 
 use compare::{Compared, Tally};
 use damaged::Damaged;
+use joins::Joins;
 use memory::Recording;
 use random::Random;
 use refusals::Refusals;
@@ -35,6 +38,8 @@ struct Size {
     longs: usize,
     mixed: u64,
     altered: u64,
+    joins: u64,
+    wides: u64,
     damaged: u64,
 }
 
@@ -47,6 +52,8 @@ const SIZES: [Size; 2] = [
         longs: 1,
         mixed: 6_000,
         altered: 6_000,
+        joins: 6_000,
+        wides: 1,
         damaged: 40,
     },
     Size {
@@ -57,6 +64,8 @@ const SIZES: [Size; 2] = [
         longs: 20,
         mixed: 30_000,
         altered: 60_000,
+        joins: 60_000,
+        wides: 8,
         damaged: 400,
     },
 ];
@@ -68,6 +77,7 @@ struct Run {
     values: Values,
     tally: Tally,
     refusals: Refusals,
+    joins: Joins,
     damaged: Damaged,
 }
 
@@ -80,6 +90,7 @@ impl Run {
             values: Values::default(),
             tally: Tally::default(),
             refusals: Refusals::new(),
+            joins: Joins::default(),
             damaged: Damaged::default(),
         }
     }
@@ -120,6 +131,8 @@ impl Run {
             }
             "mixed" => refusals::mixed(random, &mut self.tally),
             "altered" => refusals::altered(random, &mut self.refusals),
+            "joined-limits" => joins::limits(random, item as usize, &mut self.joins, &mut self.refusals),
+            "joins" => joins::item(random, &mut self.joins, &mut self.refusals),
             "damaged" => damaged::item(random, &mut self.tally, &mut self.damaged),
             "limits" => limits::recordings(random, item as usize, &mut self.tally),
             _ => Err(format!("no group {group}")),
@@ -161,7 +174,13 @@ impl Run {
         let (calls, refused) = (self.refusals.calls, self.refusals.refused);
         self.passed(format!("calls on states altered and not: {calls}, {refused} refused"));
         self.fixed(size.whole)?;
-        self.passed("image limit on mapped memory, S of 65,536, skipped count at its top".to_string());
+        self.passed(
+            "image limit and joined totals on mapped memory, S of 65,536, skipped count at its top".to_string(),
+        );
+        self.items("joins", size.joins)?;
+        self.passed(self.joined());
+        self.one("joined-limits", size.wides)?;
+        self.passed(format!("with the limits: {}", self.joined()));
         self.items("damaged", size.damaged)?;
         let Damaged { images, accepted } = self.damaged;
         self.passed(format!(
@@ -175,7 +194,8 @@ impl Run {
         limits::skipped_count()?;
         limits::image_limit(&mut self.refusals)?;
         limits::last_byte(&mut self.refusals)?;
-        limits::largest_image(whole)
+        limits::largest_image(whole)?;
+        limits::joined_total(whole, &mut self.refusals)
     }
 
     fn recorded(&self) -> String {
@@ -186,7 +206,15 @@ impl Run {
         )
     }
 
-    /// Every condition of document 01 must have been the only one of a refusal.
+    fn joined(&self) -> String {
+        let (j, t) = (&self.joins, &self.joins.tally);
+        format!(
+            "joins: {} ({} at an equal time, {} with an empty second) of {} recordings, {} signals loaded, {} entries, {} cursors; {} calls, {} refused",
+            j.joined, j.meeting, j.empty, t.recordings, t.signals, t.entries, t.cursors, j.calls, j.refused
+        )
+    }
+
+    /// Every condition of the papers must have been the only one of a refusal.
     fn conditions(&mut self) -> Compared {
         let lines: Vec<String> = self
             .refusals

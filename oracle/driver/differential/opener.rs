@@ -1,7 +1,9 @@
-//! The opener by the third demand's own words: "accepts a byte string exactly when some such list leaves it". A list of calls is read off the
-//! bytes by the layout alone, made on the recorder of paper.rs, and must leave the same bytes.
+//! The opener by the third demand's own words, as document 02 extends them: "left by a list of calls, or joined from accepted images". For
+//! each block, calls are read off its bytes by the layout alone and made on the recorder of paper.rs; what these recordings leave is joined
+//! (join.rs), and must be the same bytes.
 
 use crate::history::History;
+use crate::join::joined;
 use crate::memory::{Answer, Memory, Recording};
 use crate::paper;
 use crate::value::{class_of, packed, packed_length, unpacked};
@@ -78,7 +80,8 @@ fn part(data: &[u8], signal: u32, kind: u32, at: &mut [Vec<Step>]) -> Option<()>
     Some(())
 }
 
-fn block(bytes: &mut Bytes, kinds: &[u32], first: bool, steps: &mut Vec<Step>) -> Option<()> {
+/// The calls of a recording that leaves this block.
+fn block(bytes: &mut Bytes, kinds: &[u32]) -> Option<Vec<Step>> {
     let (size, count, signals) = (bytes.u32()?, bytes.u32()?, bytes.u32()?);
     let offsets = (0..signals).map(|_| bytes.u32()).collect::<Option<Vec<u32>>>()?;
     let times = (0..count).map(|_| bytes.u64()).collect::<Option<Vec<u64>>>()?;
@@ -92,45 +95,56 @@ fn block(bytes: &mut Bytes, kinds: &[u32], first: bool, steps: &mut Vec<Step>) -
         let piece = data.get(offsets[signal] as usize - 1..end)?;
         part(piece, signal as u32, *kinds.get(signal)?, &mut at)?;
     }
-    for (index, (time, changes)) in times.into_iter().zip(at).enumerate() {
-        if first || index > 0 {
-            steps.push(Step::Time(time));
-        }
-        steps.extend(changes);
-    }
-    Some(())
+    let steps = times.into_iter().zip(at);
+    let steps = steps.flat_map(|(time, changes)| [vec![Step::Time(time)], changes].concat());
+    Some(steps.chain([Step::Finish]).collect())
 }
 
-/// A recording that leaves the bytes, if there is one.
-fn read_off(image: &[u8]) -> Option<Recording> {
+/// A recording for each block; of an image without blocks, one without times.
+fn read_off(image: &[u8]) -> Option<Vec<Recording>> {
     let mut bytes = Bytes(image);
     let (signals, limit, blocks, _) = (bytes.u32()?, bytes.u32()?, bytes.u32()?, bytes.u32()?);
     let kinds = (0..signals).map(|_| bytes.u32()).collect::<Option<Vec<u32>>>()?;
-    let mut steps = Vec::new();
-    for number in 0..blocks {
-        block(&mut bytes, &kinds, number == 0, &mut steps)?;
-    }
-    steps.push(Step::Finish);
-    Some(Recording {
-        limit: u16::try_from(limit).ok()?,
-        kinds,
+    let limit = u16::try_from(limit).ok()?;
+    let recording = |steps| Recording {
+        limit,
+        kinds: kinds.clone(),
         steps,
-    })
+    };
+    if blocks == 0 {
+        return Some(vec![recording(vec![Step::Finish])]);
+    }
+    (0..blocks).map(|_| block(&mut bytes, &kinds).map(recording)).collect()
 }
 
-/// The recording and its history, if the bytes are an image.
-pub fn opened(image: &[u8]) -> Option<(Recording, History)> {
-    let recording = read_off(image)?;
-    let limit = u32::from(recording.limit);
-    let work = 16 * image.len();
-    let mut m = Memory::fresh(&recording.kinds, limit as usize, work, image.len());
-    paper::start(&mut m, limit, recording.kinds.len() as u32).ok()?;
-    let mut history = History::new(&recording.kinds);
+/// What a recording leaves, if none of its calls is refused.
+fn left(r: &Recording, room: usize) -> Option<Vec<u8>> {
+    let limit = u32::from(r.limit);
+    let mut m = Memory {
+        times: vec![0; limit as usize], // zeros cost least
+        ..Memory::fresh(&r.kinds, 0, 16 * room, room)
+    };
+    paper::start(&mut m, limit, r.kinds.len() as u32).ok()?;
     let mut last = Answer::Started;
-    for step in &recording.steps {
+    for step in &r.steps {
         last = paper::step(&mut m, step).ok()?;
-        history.tell(step, false);
     }
-    let left = last == Answer::Finished(image.len() as u32) && m.image == image;
-    left.then_some((recording, history))
+    let Answer::Finished(total) = last else { return None };
+    m.image.truncate(total as usize);
+    Some(m.image)
+}
+
+/// The recordings, one for each block, and their history, if the bytes are an image.
+pub fn opened(image: &[u8]) -> Option<(Vec<Recording>, History)> {
+    let recordings = read_off(image)?;
+    let mut all: Option<(Vec<u8>, History)> = None;
+    for r in &recordings {
+        let (bytes, history) = (left(r, image.len())?, History::of(r));
+        all = Some(match all {
+            None => (bytes, history),
+            Some((before, earlier)) => (joined(&before, &bytes, image.len()).ok()?, earlier.followed(&history)),
+        });
+    }
+    let (bytes, history) = all?;
+    (bytes == image).then_some((recordings, history))
 }

@@ -165,6 +165,11 @@ pub fn sources(image: &[u8]) -> Vec<Source<'_>> {
     [Source::Bytes(image)].into_iter().chain(opened).collect()
 }
 
+/// The total, or a refusal.
+pub fn join(first: &[u8], second: &[u8], out: &mut [u8]) -> Result<u32, u32> {
+    wejumo::join(first, second, out).map_err(|refusal| refusal.0)
+}
+
 fn class(states: States) -> u32 {
     states as u32
 }

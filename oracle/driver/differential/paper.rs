@@ -14,8 +14,8 @@ pub struct Turned {
     pub why: Vec<&'static str>,
 }
 
-/// All conditions, by the number of their refusal.
-pub const CONDITIONS: [&str; 33] = [
+/// All conditions, by the number of their refusal; those of a join are tested in join.rs.
+pub const CONDITIONS: [&str; 42] = [
     "1 B outside its range",
     "1 time buffer under B",
     "1 S over 65,536",
@@ -35,6 +35,8 @@ pub const CONDITIONS: [&str; 33] = [
     "6 bad raw value",
     "7 work buffer full",
     "8 block exceeds the unused image bytes",
+    "8 joined image exceeds the output",
+    "8 joined image over the limit",
     "10 B outside its range",
     "10 held times exceed B",
     "10 time buffer under B",
@@ -49,12 +51,19 @@ pub const CONDITIONS: [&str; 33] = [
     "10 work ends in a record's head",
     "10 work names a signal not below S",
     "10 work ends in a record's stream",
+    "11 the first is no image",
+    "11 the second is no image",
+    "14 S differs",
+    "14 B differs",
+    "14 a kind differs",
+    "15 the first has no block",
+    "16 the second starts before the first ends",
 ];
 
 type Said = Result<Answer, Turned>;
 
 /// Refused where one of the conditions holds. Nothing is written before the last test of a call.
-fn turn(number: u32, conditions: &[(bool, &'static str)]) -> Result<(), Turned> {
+pub fn turn(number: u32, conditions: &[(bool, &'static str)]) -> Result<(), Turned> {
     let held = conditions.iter().filter(|condition| condition.0);
     let why: Vec<&'static str> = held.map(|condition| condition.1).collect();
     if why.is_empty() {
