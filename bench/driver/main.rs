@@ -184,6 +184,34 @@ impl Sides {
         let rust = || timed(|| self.loader.load_all(&self.signals)).0;
         Pairs::measure(repetitions, ours, rust)
     }
+
+    /// The image of the same calls made again from the last time on, and both images joined, as the Rust's `append` leaves them.
+    fn again(&mut self) -> (Vec<u8>, Vec<u8>) {
+        let w = self.w.again();
+        let length = self.ours.record(&w);
+        let second = self.ours.image(length).to_vec();
+        let mut rust = recorded(&self.signals, &self.w);
+        rust.append(recorded(&self.signals, &w));
+        let wanted = rust.loader().image(&w.kinds);
+        let mut out = vec![1; wanted.len()];
+        assert_eq!(wejumo::join(&self.image, &second, &mut out), Ok(wanted.len() as u32));
+        assert!(out == wanted, "{}: joined images differ", w.name);
+        (second, out)
+    }
+
+    /// Against opening both and copying as many bytes: `append` moves a list of blocks, and neither copies nor tests a byte.
+    fn joining(&self, second: &[u8], out: &mut [u8], repetitions: usize) -> Pairs {
+        let first = &self.image[..];
+        let mut copy = out.to_vec();
+        let plain = || {
+            assert!(Image::open(first).is_some() && Image::open(second).is_some());
+            let (front, rest) = copy.split_at_mut(first.len());
+            front.copy_from_slice(first);
+            rest.copy_from_slice(&second[second.len() - rest.len()..]);
+        };
+        let ours = || timed(|| wejumo::join(first, second, out)).0;
+        Pairs::measure(repetitions, ours, repeated(1, plain))
+    }
 }
 
 fn repeated<T>(turns: usize, mut work: impl FnMut() -> T) -> impl FnMut() -> u64 {
@@ -232,23 +260,12 @@ fn head(title: &str, columns: &str) {
     println!("|{}", "---|".repeat(columns.matches('|').count() + 2));
 }
 
-fn tables(only: Option<&str>) {
-    let wanted = |w: &Workload| only.is_none_or(|name| w.name == name);
-    let mut sides: Vec<Sides> = workloads().into_iter().filter(wanted).map(Sides::new).collect();
-    let per_change = "ours, ns a change | Rust, ns a change | ours / Rust | aim: at most 1";
-    head("## Recording", per_change);
-    for s in &mut sides {
-        row(&s.w.name.clone(), &s.recording(31), s.w.changes as f64, Some(1.0));
-    }
-    head("## Cutting", "ours, µs a cut | Rust, µs a cut | ours / Rust | ");
-    for s in &mut sides {
-        row(&s.w.name.clone(), &s.cutting(31), 1_000.0, None);
-    }
+fn openings(sides: &[Sides]) {
     head(
         "## Opening",
         "bytes | ours, MB/s | plain loop, MB/s | ours / plain loop | aim: at most 4 for wide vectors",
     );
-    for s in &sides {
+    for s in sides {
         let pairs = s.opening(51);
         let (ratio, length) = (pairs.ratio(), s.image.len() as f64);
         let met = if (64..REAL).contains(&s.w.kinds[0]) {
@@ -264,6 +281,34 @@ fn tables(only: Option<&str>) {
             shown(&ratio)
         );
     }
+}
+
+fn joins(sides: &mut [Sides]) {
+    head(
+        "## Joining",
+        "bytes | ours, µs | opening both and copying, µs | ours / these | ",
+    );
+    for s in sides {
+        let (second, mut out) = s.again();
+        let name = format!("{} | {}", s.w.name, out.len());
+        row(&name, &s.joining(&second, &mut out, 31), 1_000.0, None);
+    }
+}
+
+fn tables(only: Option<&str>) {
+    let wanted = |w: &Workload| only.is_none_or(|name| w.name == name);
+    let mut sides: Vec<Sides> = workloads().into_iter().filter(wanted).map(Sides::new).collect();
+    let per_change = "ours, ns a change | Rust, ns a change | ours / Rust | aim: at most 1";
+    head("## Recording", per_change);
+    for s in &mut sides {
+        row(&s.w.name.clone(), &s.recording(31), s.w.changes as f64, Some(1.0));
+    }
+    head("## Cutting", "ours, µs a cut | Rust, µs a cut | ours / Rust | ");
+    for s in &mut sides {
+        row(&s.w.name.clone(), &s.cutting(31), 1_000.0, None);
+    }
+    openings(&sides);
+    joins(&mut sides);
     head(
         "## Loading one signal of an opened image",
         "ours, µs | Rust, µs | ours / Rust | aim: at most 1",

@@ -2,8 +2,9 @@
 
 use super::*;
 
-/// The encodings of the signals, and the hierarchy that `Encoder::new` reads.
+/// The limit B, the encodings of the signals, and the hierarchy that `Encoder::new` reads.
 pub struct Signals {
+    limit: u16,
     encodings: Vec<SignalEncoding>,
     hierarchy: Hierarchy,
 }
@@ -11,7 +12,6 @@ pub struct Signals {
 impl Signals {
     /// By the kinds' numbers: a width, or FFFFFFFE for a real.
     pub fn new(limit: u32, kinds: &[u32]) -> Signals {
-        set_block_limit(limit as u16);
         let encoding = |kind: &u32| match *kind {
             0xffff_fffe => SignalEncoding::Real,
             width => SignalEncoding::BitVector(width),
@@ -22,6 +22,7 @@ impl Signals {
             builder.new_signal(*encoding);
         }
         Signals {
+            limit: limit as u16,
             encodings,
             hierarchy: builder.finish(),
         }
@@ -33,8 +34,10 @@ impl Signals {
 pub struct Recording(Encoder);
 
 impl Recording {
+    /// The limit is one number for all recordings, so each sets its own.
     #[inline]
     pub fn start(signals: &Signals) -> Recording {
+        set_block_limit(signals.limit);
         Recording(Encoder::new(&signals.hierarchy))
     }
 
@@ -65,6 +68,11 @@ impl Recording {
     #[inline]
     pub fn finish(&mut self) {
         self.0.finish_block();
+    }
+
+    /// Behind a recording that has a block, one that starts at or after its end; the Rust only asserts both.
+    pub fn append(&mut self, later: Recording) {
+        self.0.append(later.0);
     }
 
     pub fn loader(self) -> Loader {

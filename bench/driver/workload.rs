@@ -12,6 +12,7 @@ pub enum Call {
     Real(u32, u64),
 }
 
+#[derive(Clone)]
 pub struct Workload {
     pub name: String,
     pub limit: u32,
@@ -70,6 +71,23 @@ impl Workload {
             for _ in 0..each {
                 let signal = random.below(w.kinds.len()) as u32;
                 w.change(signal, values, random);
+            }
+        }
+        w
+    }
+
+    /// The same calls, from the last time on.
+    pub fn again(&self) -> Workload {
+        let mut w = self.clone();
+        let times = |call: &Call| match call {
+            Call::Time(time) => Some(*time),
+            _ => None,
+        };
+        let first = self.calls.iter().find_map(times).expect("a time");
+        let last = self.calls.iter().rev().find_map(times).expect("a time");
+        for call in &mut w.calls {
+            if let Call::Time(time) = call {
+                *time += last - first;
             }
         }
         w
