@@ -1,4 +1,5 @@
--- Images that are opened, and byte strings that break one rule each and are not: document 01, 'Block and image', computed.
+-- Images that are opened, and byte strings that break one rule each and are not: document 01, 'Block and image', with document
+-- 02's joins, computed.
 -- Assumes nothing.
 use Prim.Native.Nat.{ℕ, _+_}
 use mathlib.Core.Path.{_≡_, refl}

@@ -35,6 +35,7 @@ pub record JoinAfter : Type 0 where
 abbrev pub joinAfter : JoinReply → List ℕ → JoinAfter
 joinAfter r o = record { reply = r; out = o }
 
+-- "head of the first .., then the blocks in order"; `imageBytes` writes N and the total that they make
 abbrev pub joinedImage : Image → Image → Image
 joinedImage x y = image (x .limit) (x .kinds) (x .blocks ++ y .blocks)
 
@@ -62,6 +63,7 @@ joinTests x y room =
     ∷ (ltb imageLimit (length (imageBytes (joinedImage x y))) || ltb room (length (imageBytes (joinedImage x y))), 8)
     ∷ []
 
+-- accepted images: a refused join leaves the output; else the image stands at its front
 unfoldable pub joinIn : Image → Image → (out : List ℕ) → JoinAfter
 joinIn x y out =
     guarded (joinTests x y (length out)) (λ n. joinAfter (refuse n) out)
@@ -73,5 +75,6 @@ joinBy none y out = joinAfter (refuse 11) out
 joinBy (some x) none out = joinAfter (refuse 11) out
 joinBy (some x) (some y) out = joinIn x y out
 
+-- any two byte strings
 abbrev pub joinOf : (first second out : List ℕ) → JoinAfter
 joinOf a b out = joinBy (parse a) (parse b) out

@@ -1,4 +1,4 @@
-// The opener: whether bytes are an image. Document 01, 'Block and image'.
+// The opener: whether bytes are an image. Document 01, 'Block and image', with document 02's joins.
 //
 // Head, then blocks in order, each test where its bytes stand; a block has at least 20 bytes, so that reading ends with the bytes, whatever
 // number of blocks the head claims. specs/Opening.antt has the tests; that they are crate codec's `walk`, and so `parse`, is proved in

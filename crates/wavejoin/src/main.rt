@@ -1,5 +1,5 @@
 // Joins the images in two files and writes the joined image's bytes to standard output. Where the join is refused it writes the line
-// `refused N` instead, and where the two files cannot be read its usage.
+// `refused N` instead, and where a file cannot be read, or there are not two arguments, its usage.
 //
 // The join is the crate join's; the contract of `join_files` cites specs/Files.antt.
 mod file;

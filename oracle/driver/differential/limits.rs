@@ -1,4 +1,4 @@
-//! The limits: widths, B, S, times near 2^64, special reals, the skipped count, and the image limit on mapped memory that stays untouched.
+//! The limits: widths, B, S, times near 2^64, special reals, the skipped count, and the image limit on mapped memory that stays untouched, and joins to that total, one of which is written.
 
 use crate::compare::{Compared, Tally, agree, recording};
 use crate::generate::{Generator, REALS, long};
