@@ -3,10 +3,11 @@
 use Prim.Native.Nat.{ℕ, suc, _+_, _≤_}
 use mathlib.Core.Path.{_≡_, refl, sym, ap, _∙_}
 use mathlib.Core.List.{List, [], _∷_, _++_, map, append-assoc, append-nil}
-use native.Mathlib.Nat.{add-zero, zero-add}
+use native.Mathlib.Nat.{add-zero}
 use native.Mathlib.Omega.{arith}
 use lib.ListN.{length, take, drop, length-append}
 use lib.Seq.{sets, sets-eq, take-at, length-take-le, length-sets}
+use Rattle.lists.proofs.SetsLaws.{taken-back}
 use Rattle.numbers.specs.LittleEndian.{le}
 use Rattle.numbers.proofs.LittleEndianLaws.{length-le}
 use Rattle.signal.specs.declared.kind.SignalEncoding.{SignalEncoding}
@@ -19,7 +20,7 @@ use Rattle.codec.proofs.ImageFits.{head-size}
 use Rattle.history.specs.History.{Change}
 use Rattle.model.specs.Model.{Chunk, storedOf, imageOf}
 use Rattle.model.proofs.ValidLaws.{seenOf, image-snoc}
-use Rattle.follow.proofs.WorkLaws.{take-sets, sets-mid}
+use Rattle.follow.proofs.WorkLaws.{sets-mid}
 
 -- the stored blocks of finished ones
 abbrev pub storedAll : List SignalEncoding → List Chunk → List (Block (List Entry))
@@ -116,10 +117,9 @@ unfolding imageOf blocksBytes
 image-start limit ks buffer h =
     let b : List ℕ = headBytes limit 0 (headSize (length ks)) ks in
     let n : length b ≡ headSize (length ks) = head-size limit 0 (headSize (length ks)) ks in
-    let t = take-sets 0 buffer b (omega arith) in
     record {
       count = refl;
       long = sym (add-zero (headSize (length ks)));
       room = rw length-sets h;
-      is = ap (λ (m : ℕ). take m (sets buffer 0 b)) (sym n ∙ sym (zero-add (length b))) ∙ t ∙ head-image limit ks;
+      is = taken-back b buffer (headSize (length ks)) (sym n) h ∙ head-image limit ks;
     }

@@ -8,8 +8,9 @@ use native.Mathlib.Omega.{arith}
 use borrow.Author.Tests.{le-ltb, leb-true, eqb-true}
 use lib.Dec.{leb, eqb}
 use lib.ListN.{length, take, drop, getD, length-take, length-drop, drop-of-length-le}
-use lib.Seq.{sets, sets-eq, drop-cons, drop-drop, take-at, drop-at}
+use lib.Seq.{sets, drop-cons, drop-drop, take-at, drop-at}
 use Rattle.lists.proofs.ChoiceLaws.{both-hold}
+use Rattle.lists.proofs.SetsLaws.{taken-back}
 use Rattle.value.specs.Class.{classOfAll, allSymbols}
 use Rattle.packed.proofs.PackedLaws.{length-unpacked}
 use Rattle.signal.specs.declared.kind.SignalEncoding.{SignalEncoding}
@@ -43,10 +44,6 @@ pub letters-none : (s : List ℕ) (i : ℕ) → length s ≤ i → map letterOf 
 letters-none s i h = rw (drop-of-length-le s {i = i} h) refl
 
 -- ---- one entry
-
--- a text at the start of a buffer, read again
-pub taken-back : (v l : List ℕ) (n : ℕ) → n ≡ length v → n ≤ length l → take n (sets l 0 v) ≡ v
-taken-back v l n e h = rw (sets-eq v l 0 (omega arith)) (take-at v (drop (0 + length v) l) n (sym e))
 
 symbols-wide : (k : SignalEncoding) (c : ℕ) (b : List ℕ) → length (symbolsOf (entryOf k c b)) ≡ widthOf k
 unfolding entryOf

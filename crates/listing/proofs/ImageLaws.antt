@@ -11,6 +11,7 @@ use lib.ListN.{length, take}
 use lib.Seq.{sets, length-sets}
 use Rattle.lists.specs.Bytes.{Bytes}
 use Rattle.lists.proofs.ChoiceLaws.{pick-same}
+use Rattle.lists.proofs.SetsLaws.{taken-back}
 use Rattle.ascii.specs.Ascii.{ascii}
 use Rattle.ascii.specs.Put.{Room, Puts}
 use Rattle.ascii.proofs.PutLaws.{puts-length}
@@ -23,7 +24,6 @@ use Rattle.walk.proofs.OpenLaws.{parse-opened}
 use Rattle.listing.specs.Listing.{headLine, imageText, textOf, inputLimit, listingOf, listingLimit, listingAfter, written, tooShort, into}
 use Rattle.listing.specs.Written.{Taken}
 use Rattle.listing.proofs.BoundLaws.{table-few, listing-fits}
-use Rattle.listing.proofs.EntryLaws.{taken-back}
 use Rattle.listing.proofs.SignalLaws.{small-in}
 
 pub head-same : {s s′ t t′ n n′ : ℕ} → s ≡ s′ → t ≡ t′ → n ≡ n′ → headLine s′ t′ n′ ≡ headLine s t n

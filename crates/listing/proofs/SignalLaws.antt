@@ -10,6 +10,7 @@ use lib.Dec.{ltb}
 use lib.ListN.{length, take, drop, length-map}
 use lib.Seq.{sets, sets-eq, length-sets}
 use Rattle.lists.specs.Bytes.{Bytes}
+use Rattle.lists.proofs.SetsLaws.{taken-back}
 use Rattle.signal.specs.declared.kind.SignalEncoding.{SignalEncoding}
 use Rattle.signal.specs.declared.kind.SignalEncoding.the-variants.{BitVector, Real, Absent}
 use Rattle.signal.specs.Kind.{widthOf, absent, knownKind}
@@ -28,7 +29,7 @@ use Rattle.loader.proofs.LoadLaws.{known}
 use Rattle.listing.specs.Listing.{entryLines, signalLine, signalLines}
 use Rattle.listing.specs.Written.{Taken, Enough, entriesRead, entriesThere}
 use Rattle.listing.proofs.BoundLaws.{Small, entries-few, bytes-few}
-use Rattle.listing.proofs.EntryLaws.{taken-back, ReadBack, read-back}
+use Rattle.listing.proofs.EntryLaws.{ReadBack, read-back}
 
 pub valid-in : (b : List ℕ) → Bytes b → Taken b → Valid (imageIn b)
 valid-in b y o = means b y (o .0) .valid

@@ -1,12 +1,12 @@
--- A run of stores in a list: two runs one after the other, and a run in a part of the list. And what a run of copies reads, a byte at a time.
+-- A run of stores in a list: two runs one after the other, a run in a part of the list, and one at its start read again. And what a run of copies reads, a byte at a time.
 -- Assumes nothing.
 use Prim.Native.Nat.{ℕ, suc, _+_, _≤_, _<_}
-use mathlib.Core.Path.{_≡_, refl, _∙_}
+use mathlib.Core.Path.{_≡_, refl, sym, _∙_}
 use mathlib.Core.List.{List, [], _∷_, _++_}
 use native.Mathlib.Nat.{add-zero, add-suc, suc-add}
 use native.Mathlib.Omega.{arith}
 use lib.ListN.{length, take, drop, getD, set}
-use lib.Seq.{sets, drop-cons, drop-set-add, take-set-lt, drop-set-lt, take-set-le}
+use lib.Seq.{sets, sets-eq, take-at, drop-cons, drop-set-add, take-set-lt, drop-set-lt, take-set-le}
 use borrow.Rule.Slice.PartMut.{putMid, midOf, put-same}
 
 pub sets-append : (a b l : List ℕ) (i : ℕ) → sets l i (a ++ b) ≡ sets (sets l i a) (i + length a) b
@@ -21,6 +21,10 @@ sets-part (v ∷ vs) xs a k j h =
     let ih = sets-part vs (set xs (a + j) v) a k (suc j) (omega arith) in
     let aj : a ≤ a + j = omega arith in
     rw add-suc at (simp (drop-set-add, take-set-lt, drop-set-lt, take-set-le) at ih)
+
+-- what was stored at the start, read again
+pub taken-back : (v l : List ℕ) (n : ℕ) → n ≡ length v → n ≤ length l → take n (sets l 0 v) ≡ v
+taken-back v l n e h = rw (sets-eq v l 0 (omega arith)) (take-at v (drop (0 + length v) l) n (sym e))
 
 -- the first byte of a part, and the rest
 pub part-more : (n at : ℕ) (s : List ℕ) → at < length s → take (suc n) (drop at s) ≡ getD s at 0 ∷ take n (drop (suc at) s)
