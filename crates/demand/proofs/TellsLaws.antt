@@ -7,13 +7,13 @@ use mathlib.Core.List.{List, [], _∷_, map}
 use mathlib.Core.Option.{Option, some, none}
 use native.Mathlib.Omega.{arith}
 use borrow.Author.Tests.{leb-true, eq-eqb, le-ltb}
-use native.Mathlib.Nat.{zero-add}
 use lib.ListN.{length, getD, take, replicate, length-append, length-replicate, length-map}
 use lib.Seq.{sets}
 use Rattle.lists.specs.Bytes.{Bytes}
 use Rattle.lists.specs.Choice.{isSome}
 use Rattle.lists.specs.Last.{lastOr}
 use Rattle.lists.proofs.SameLaws.{same-self}
+use Rattle.lists.proofs.SetsLaws.{taken-back}
 use Rattle.history.specs.History.{History}
 use Rattle.history.specs.Followed.{followed}
 use Rattle.lists.proofs.BytesLaws.{zeros-at}
@@ -44,7 +44,6 @@ use Rattle.follow.proofs.Start.{start-is}
 use Rattle.follow.proofs.RebuiltFits.{image-fit}
 use Rattle.follow.proofs.RebuiltCount.{image-count}
 use Rattle.follow.proofs.Left.{blocksIn, OneFits, left}
-use Rattle.follow.proofs.WorkLaws.{take-sets}
 use Rattle.joined.specs.Join.{JoinAfter, joinAfter, joined, differs, early, joinIn, joinBy, joinOf}
 use Rattle.demand.specs.Demand3.{RecordsFit, Lent, Recorded, leftBy, historyOf, Tells}
 use Rattle.demand.specs.Demand3 as demand
@@ -205,7 +204,7 @@ tells-valid limit ks (b ∷ c ∷ bs) v =
     ap₂ (λ (o q : Option Image). joinBy o q bytes) (parse-of x vx) (parse-of y vy)
     ∙ rw (same-kinds limit ks (b ∷ []) (c ∷ bs), not-early limit ks (some (lastOr 0 (b .times))) (c ∷ bs) (v .blocks .1 .1), le-ltb imageLimit (length bytes) (v .total), le-ltb (length bytes) (length bytes) (omega arith)) refl in
     let e : take (length bytes) (joinOf (imageBytes x) (imageBytes y) bytes .out) ≡ bytes =
-    ap (λ (r : JoinAfter). take (length bytes) (r .out)) p ∙ ap (λ (n : ℕ). take n (sets bytes 0 bytes)) (sym (zero-add (length bytes))) ∙ take-sets 0 bytes bytes (omega arith) in (
+    ap (λ (r : JoinAfter). take (length bytes) (r .out)) p ∙ taken-back bytes bytes (length bytes) refl (omega arith) in (
       followed (s .0) (t .0),
       subst (Tells ks (followed (s .0) (t .0))) e
           (demand.join ks ks (s .0) (t .0) (imageBytes x) (imageBytes y) bytes (length bytes) (s .1) (t .1) (ap (λ (r : JoinAfter). r .reply) p)),

@@ -1,32 +1,38 @@
--- Images of which nothing differs have the same B and kinds, so the blocks of a join are those of both; an empty second image gives the first.
+-- Images of which nothing differs have the same B and kinds, so the blocks of a join are those of both. What a join that is not refused leaves is
+-- valid. An empty second image gives the first.
 -- Assumes nothing.
 use Prim.Native.Nat.{ℕ, _+_, _≤_}
-use mathlib.Core.Path.{_≡_, refl, ap, ap₂, _∙_}
-use mathlib.Core.Bool.{true, false, not}
+use mathlib.Core.Path.{_≡_, refl, sym, ap, ap₂, _∙_, subst}
+use mathlib.Core.Bool.{Bool, true, false, not}
 use mathlib.Core.List.{List, [], _∷_, _++_, map, append-nil}
 use mathlib.Core.Option.{Option, some, none}
 use native.Mathlib.Omega.{arith}
 use borrow.Author.Tests.{not-false, eqb-true, leb-true, le-ltb, ltb-false}
-use lib.ListN.{length, getD, drop, length-append}
+use lib.ListN.{length, getD, take, drop, length-append}
 use lib.Seq.{sets}
 use lib.Dec.{ltb, eqb}
 use Rattle.lists.specs.Bytes.{Bytes}
+use Rattle.lists.specs.Choice.{pick}
 use Rattle.lists.specs.Same.{same}
 use Rattle.lists.proofs.ChoiceLaws.{none-holds}
 use Rattle.lists.proofs.SameLaws.{same-true}
+use Rattle.lists.proofs.SetsLaws.{taken-back}
 use Rattle.signal.specs.declared.kind.SignalEncoding.{SignalEncoding}
 use Rattle.signal.specs.declared.kind.SignalEncoding.the-variants.{BitVector, Real, Absent}
 use Rattle.signal.specs.Kind.{knownKind}
+use Rattle.stream.specs.Entries.{Entry}
+use Rattle.image.specs.Block.{Block}
 use Rattle.image.specs.Head.{kindNumber, headSize, imageLimit}
 use Rattle.image.specs.Image.{Image, blocksBytes, imageBytes}
-use Rattle.codec.specs.Valid.{KnownKinds, Valid}
+use Rattle.codec.specs.Valid.{KnownKinds, BlocksFit, Valid}
 use Rattle.codec.specs.Ends.{endAfter}
 use Rattle.codec.specs.Parse.{parse}
-use Rattle.codec.proofs.Growth.{blocks-append}
+use Rattle.codec.proofs.Growth.{blocks-append, blocks-join}
 use Rattle.codec.proofs.ImageFits.{image-size}
 use Rattle.codec.proofs.Trip.{parse-is}
-use Rattle.recording.proofs.TestsLaws.{AllFalse}
-use Rattle.joined.specs.Join.{joined, joinAfter, joinedImage, differs, noBlock, early, joinTests, joinIn, joinBy, joinOf}
+use Rattle.recording.specs.Memory.{Tests, guarded}
+use Rattle.recording.proofs.TestsLaws.{AllFalse, guarded-past}
+use Rattle.joined.specs.Join.{JoinReply, refuse, joined, JoinAfter, joinAfter, joinedImage, differs, noBlock, early, joinTests, joinIn, joinBy, joinOf}
 
 -- ---- the same B and kinds
 
@@ -81,7 +87,7 @@ joined-size x y a =
       length-append (blocksBytes (x .kinds) (x .blocks)) (blocksBytes (y .kinds) (y .blocks)),
     )
 
--- ---- what a join that is not refused has passed
+-- ---- what a join that is not refused has passed, and what it leaves
 
 pub record Passes (x y : Image) (most : ℕ) : Type 0 where
   pub same : differs x y ≡ false
@@ -95,6 +101,61 @@ passes x y room p =
     let n : ℕ = length (imageBytes (joinedImage x y)) in
     let z = none-holds (ltb imageLimit n) (ltb room n) (p .1 .1 .1 .0) in
     record { same = p .0; some-block = p .1 .0; in-order = p .1 .1 .0; few = ltb-false imageLimit n (z .0); room = ltb-false room n (z .1) }
+
+not-joined : {A : Type 0} (n size : ℕ) → refuse n ≡ joined size → A
+not-joined n size e = let z : _≡_ {A = ℕ} 0 1 = cc in absurd (omega arith)
+
+-- what is joined is refused by no test
+passed : (ts : Tests) (out : List ℕ) (done : JoinAfter) (size : ℕ) → guarded ts (λ n. joinAfter (refuse n) out) done .reply ≡ joined size → AllFalse ts
+passed [] out done size e = tt
+passed (t ∷ ts) out done size e = by (t .0) refl e (passed ts out done size)
+  where
+    rest : JoinAfter
+    rest = guarded ts (λ n. joinAfter (refuse n) out) done
+
+    by : (b : Bool) → t .0 ≡ b → pick b (joinAfter (refuse (t .1)) out) rest .reply ≡ joined size → (rest .reply ≡ joined size → AllFalse ts) → AllFalse (t ∷ ts)
+    by true f e k = not-joined (t .1) size e
+    by false f e k = (f, k e)
+
+total-is : (n m : ℕ) → _≡_ {A = JoinReply} (joined n) (joined m) → n ≡ m
+total-is n m q = cc
+
+pub record Joins (x y : Image) (out : List ℕ) (size : ℕ) : Type 0 where
+  pub passes : Passes x y (length out)
+  pub image : take size (joinIn x y out .out) ≡ imageBytes (joinedImage x y)
+
+pub joins : (x y : Image) (out : List ℕ) (size : ℕ) → joinIn x y out .reply ≡ joined size → Joins x y out size
+unfolding joinIn
+joins x y out size e =
+    let bytes : List ℕ = imageBytes (joinedImage x y) in
+    let done : JoinAfter = joinAfter (joined (length bytes)) (sets out 0 bytes) in
+    let p = passed (joinTests x y (length out)) out done size e in
+    let g : guarded (joinTests x y (length out)) (λ n. joinAfter (refuse n) out) done ≡ done = guarded-past (joinTests x y (length out)) (λ n. joinAfter (refuse n) out) done p in
+    let n : size ≡ length bytes = sym (total-is (length bytes) size (ap (λ (r : JoinAfter). r .reply) (sym g) ∙ e)) in
+    let z = passes x y (length out) p in
+    record { passes = z; image = ap (λ (r : JoinAfter). take size (r .out)) g ∙ taken-back bytes out size n (omega (arith, n, z .room)) }
+
+-- ---- what it leaves is valid
+
+starts-on : (limit : ℕ) (ks : List SignalEncoding) (end : Option ℕ) (bs : List (Block (List Entry))) → early end bs ≡ false → BlocksFit limit ks none bs → BlocksFit limit ks end bs
+starts-on limit ks none bs e f = f
+starts-on limit ks (some t) [] e f = tt
+starts-on limit ks (some t) (b ∷ bs) e f = (ltb-false (getD (b .times) 0 0) t e, f .1)
+
+pub join-valid : (x y : Image) → Valid x → Valid y → differs x y ≡ false → early (endAfter none (x .blocks)) (y .blocks) ≡ false
+    → length (imageBytes (joinedImage x y)) ≤ imageLimit → Valid (joinedImage x y)
+join-valid x y v w d e n =
+    let a = alike x y v w d in
+    let fit : BlocksFit (x .limit) (x .kinds) none (y .blocks) =
+    subst (λ (l : ℕ). BlocksFit l (x .kinds) none (y .blocks)) (sym (a .limit)) (subst (λ (k : List SignalEncoding). BlocksFit (y .limit) k none (y .blocks)) (sym (a .kinds)) (w .blocks)) in
+    record {
+      low = v .low;
+      high = v .high;
+      signals = v .signals;
+      kinds = v .kinds;
+      total = n;
+      blocks = blocks-join (x .limit) (x .kinds) none (x .blocks) (y .blocks) (v .blocks) (starts-on (x .limit) (x .kinds) (endAfter none (x .blocks)) (y .blocks) e fit);
+    }
 
 -- ---- "An empty second image changes nothing"
 
