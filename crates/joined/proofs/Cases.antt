@@ -25,7 +25,7 @@ use Rattle.codec.proofs.Cases.{opened, of}
 use Rattle.joined.specs.Join.{refuse, joined, joinAfter, joinIn, joinOf}
 
 -- an output of so many bytes
-abbrev room : ℕ → List ℕ
+abbrev pub room : ℕ → List ℕ
 room n = replicate n 0x77
 
 -- ---- what is written
@@ -76,11 +76,11 @@ abbrev late : List ℕ
 late = opened 2 (1 ∷ []) 1 (of (7 ∷ []) (1 ∷ []) (0x01 ∷ 0x02 ∷ []))
 
 -- one time
-abbrev at : ℕ → List ℕ
+abbrev pub at : ℕ → List ℕ
 at t = opened 2 (1 ∷ []) 1 (of (t ∷ []) (0 ∷ []) [])
 
 -- without blocks
-abbrev empty : (limit : ℕ) (kinds : List ℕ) → List ℕ
+abbrev pub empty : (limit : ℕ) (kinds : List ℕ) → List ℕ
 empty limit kinds = opened limit kinds 0 []
 
 -- 11 for either, before 14

@@ -1,2 +1,4 @@
 pub mod JoinLaws
 pub mod Cases
+pub mod Groupings
+pub mod GroupingCases
