@@ -301,7 +301,9 @@ WEJUMO_ASSERT(offsetof(wejumo_join_answer, value) == 4);
 /* Writes one image to the start of out, and nothing past it: the head of the first with the number of blocks of both and the new total, then
  * the blocks of the first and those of the second. It loads as one recording after the other, with repeats dropped between them too; a time
  * that ends the first and starts the second is one time. A second image without blocks gives the first. Refused, tested in this order, with
- * 11 for either image, 14, 15, 16, 8: out is shorter than the total, or the total is above WEJUMO_MAX_IMAGE. */
+ * 11 for either image, 14, 15, 16, 8: out is shorter than the total, or the total is above WEJUMO_MAX_IMAGE. Three images, each
+ * with a block, may be joined in either grouping, the first two first or the last two: where nothing is refused with 8, both give the same
+ * bytes, or both are refused, each with 14 or 16. */
 wejumo_join_answer wejumo_join(const uint8_t *first, size_t first_length,
                                const uint8_t *second, size_t second_length,
                                uint8_t *out, size_t out_length);
