@@ -6,7 +6,7 @@
   images.py answers            its standard output
   images.py damaged SEED N     N random damaged images, as questions `open HEX`
 
-Tables and loads of the recordings of recordings.in are answered by the Rust (loads.out), and the entries that
+Tables and loads of the recordings of crates/recordings/stdin are answered by the Rust (loads.out), and the entries that
 cursors find there are held against the values that the Rust shows. All other answers are those of reader.py; the
 second opener (opener.py) must agree with it on every image.
 """
@@ -80,7 +80,7 @@ def ask_cursor(sheet, image, signal, time, room, values):
 
 
 def recordings(sheet, rng):
-    lines = (HERE / "recordings.out").read_text().splitlines()
+    lines = (HERE.parent / "crates/recordings/stdout").read_text().splitlines()
     images = [bytes.fromhex(line[6:]) for line in lines if line.startswith("image ")]
     loads = list(rust_loads())
     assert len(images) == len(loads)
@@ -462,7 +462,7 @@ def damages(rng, images):
 
 
 def sources():
-    lines = (HERE / "recordings.out").read_text().splitlines()
+    lines = (HERE.parent / "crates/recordings/stdout").read_text().splitlines()
     images = [bytes.fromhex(line[6:]) for line in lines if line.startswith("image ")]
     return [image for image in images if 40 <= len(image) <= 150]
 
