@@ -2,8 +2,8 @@
  *
  * Value changes become an image, an image is read back, and two are joined. Every function is proved to meet its contract in crates/interface,
  * which this header retells, for any numbers and any contents of the buffers, in any order of calls. The functions of the last part have one
- * duty more, said there. What is recorded and answered is defined in crates/interface/specs/ and the definitions that it cites;
- * docs/PROMISES.md leads there.
+ * duty more, said there. What is recorded and answered is defined in crates/interface_state/specs/ and crates/interface_answers/specs/ and the
+ * definitions that they cite; docs/PROMISES.md leads there.
  *
  * What the caller owes in every call:
  *  - A buffer is a pointer and the number of its elements. The pointer is not null and is aligned for its type, also where the number is 0.

@@ -1,7 +1,7 @@
 //! Images, the calls that read any bytes, and joining two images.
 
 use crate::ffi::{self, Content, CursorAnswer, EntryAnswer, JoinAnswer, LoadAnswer, Part, TableAnswer};
-use crate::{Kind, Refusal, States};
+use crate::{numbers, Kind, Refusal, States};
 
 /// The number of kept entries and the signal's class.
 #[derive(Clone, Copy, Debug, PartialEq, Eq)]
@@ -43,8 +43,8 @@ pub enum Entry {
 impl Value {
     fn from(content: Content) -> Value {
         match content.form {
-            1 => Value::Vector(States::from_number(content.value_class)),
-            2 => Value::Real(content.bits),
+            numbers::IS_VECTOR => Value::Vector(States::from_number(content.value_class)),
+            numbers::IS_REAL => Value::Real(content.bits),
             _ => Value::Event,
         }
     }
@@ -52,7 +52,7 @@ impl Value {
 
 fn loaded(answer: LoadAnswer) -> Result<Loaded, Refusal> {
     match answer.answer {
-        8 => Ok(Loaded {
+        numbers::LOADED => Ok(Loaded {
             count: answer.value,
             states: States::from_number(answer.signal_class),
         }),
@@ -62,19 +62,19 @@ fn loaded(answer: LoadAnswer) -> Result<Loaded, Refusal> {
 
 fn tabled(answer: TableAnswer) -> Result<u32, Refusal> {
     match answer.answer {
-        9 => Ok(answer.value),
+        numbers::TABLE => Ok(answer.value),
         _ => Err(Refusal(answer.value)),
     }
 }
 
 fn pointed(answer: CursorAnswer) -> Result<Cursor, Refusal> {
     match answer.answer {
-        10 => Ok(Cursor::Found {
+        numbers::FOUND => Ok(Cursor::Found {
             number: answer.value,
             time: answer.time,
             value: Value::from(answer.content),
         }),
-        11 => Ok(Cursor::Nothing),
+        numbers::NOTHING => Ok(Cursor::Nothing),
         _ => Err(Refusal(answer.value)),
     }
 }
@@ -220,7 +220,7 @@ pub fn join(first: &[u8], second: &[u8], out: &mut [u8]) -> Result<u32, Refusal>
         )
     };
     match answer.answer {
-        14 => Ok(answer.value),
+        numbers::JOINED => Ok(answer.value),
         _ => Err(Refusal(answer.value)),
     }
 }
@@ -248,8 +248,8 @@ pub fn entry_value(bytes: &[u8], kind: Kind, states: States, symbols: &mut [u8])
         )
     };
     match answer.answer {
-        12 => Ok(Entry::Value(Value::from(answer.content))),
-        13 => Ok(Entry::NoEntry),
+        numbers::ENTRY => Ok(Entry::Value(Value::from(answer.content))),
+        numbers::NO_ENTRY => Ok(Entry::NoEntry),
         _ => Err(Refusal(answer.value)),
     }
 }

@@ -7,6 +7,7 @@
 
 mod ffi;
 mod image;
+mod numbers;
 mod recorder;
 
 pub use ffi::State;
@@ -32,16 +33,16 @@ impl Kind {
     /// Its number, as a record or a head stores it. Of widths that no start takes, the last two numbers are not used: they are real and absent.
     pub fn number(self) -> u32 {
         match self {
-            Kind::Vector(width) => width.min(0xFFFF_FFFD),
-            Kind::Real => 0xFFFF_FFFE,
-            Kind::Absent => 0xFFFF_FFFF,
+            Kind::Vector(width) => width.min(numbers::REAL - 1),
+            Kind::Real => numbers::REAL,
+            Kind::Absent => numbers::ABSENT,
         }
     }
 
     pub fn from_number(number: u32) -> Kind {
         match number {
-            0xFFFF_FFFF => Kind::Absent,
-            0xFFFF_FFFE => Kind::Real,
+            numbers::ABSENT => Kind::Absent,
+            numbers::REAL => Kind::Real,
             width => Kind::Vector(width),
         }
     }
@@ -63,8 +64,8 @@ pub enum States {
 impl States {
     fn from_number(number: u32) -> States {
         match number {
-            0 => States::Two,
-            1 => States::Four,
+            numbers::TWO => States::Two,
+            numbers::FOUR => States::Four,
             _ => States::Nine,
         }
     }

@@ -1,7 +1,7 @@
 //! The recorder.
 
 use crate::ffi::{self, Outcome, State};
-use crate::Refusal;
+use crate::{numbers, Refusal};
 
 /// What a call of the recorder answers, unless it is refused.
 #[derive(Clone, Copy, Debug, PartialEq, Eq)]
@@ -188,13 +188,13 @@ impl<'a> Recorder<'a> {
     fn keep(&mut self, done: Outcome) -> Result<Answer, Refusal> {
         self.state = done.state;
         Ok(match done.answer {
-            1 => Answer::Started,
-            2 => Answer::Taken,
-            3 => Answer::Same,
-            4 => Answer::Back,
-            5 => Answer::Recorded,
-            6 => Answer::Skipped,
-            7 => Answer::Finished(done.value),
+            numbers::STARTED => Answer::Started,
+            numbers::TAKEN => Answer::Taken,
+            numbers::SAME => Answer::Same,
+            numbers::BACK => Answer::Back,
+            numbers::RECORDED => Answer::Recorded,
+            numbers::SKIPPED => Answer::Skipped,
+            numbers::FINISHED => Answer::Finished(done.value),
             _ => return Err(Refusal(done.value)),
         })
     }
