@@ -6,7 +6,6 @@ use mathlib.Core.List.{List, [], _∷_, _++_, map, append-assoc}
 use native.Mathlib.Nat.{zero-add, add-zero, suc-add, add-suc}
 use native.Mathlib.Omega.{arith}
 use native.Mathlib.Decide.{ℕ-discrete}
-use borrow.Author.Tests.{eq-eqb, ne-eqb}
 use lib.ListN.{length, take, drop, getD, set, replicate, take-append-drop, getD-replicate}
 use lib.ListN.{length-append, length-set, length-map, length-drop, length-replicate}
 use lib.Seq.{sets, ext-getD, getD-set-same, getD-set-other, length-take-le}
@@ -14,6 +13,7 @@ use Rattle.numbers.specs.LittleEndian.{le}
 use Rattle.numbers.proofs.LittleEndianLaws.{length-le}
 use Rattle.image.specs.Block.{les}
 use Rattle.recording.specs.Work.{Item, gather}
+use Rattle.recording.proofs.GatherLaws.{length-own, gather-other}
 use Rattle.work.specs.Measure.{partLength, dataLength}
 use Rattle.work.proofs.WorkLaws.{Below}
 use Rattle.block.specs.Passes.{keep, clear, count, Counts}
@@ -54,17 +54,6 @@ pub clear-laid : (f m e q x : List ℕ) (n : ℕ) → length f ≡ 12 → length
 clear-laid f m e q x n h b = clear-raw f (m ++ (x ++ e)) [] q 0 n h refl b
 
 -- ---- the second pass
-
-pub gather-own : (r : Item) (rs : List Item) → gather (r .signal) (r ∷ rs) ≡ r .bytes ++ gather (r .signal) rs
-unfolding gather
-gather-own r rs = rw (eq-eqb (r .signal) (r .signal) refl) refl
-
-pub length-own : (r : Item) (rs : List Item) → length (gather (r .signal) (r ∷ rs)) ≡ length (r .bytes) + length (gather (r .signal) rs)
-length-own r rs = ap length (gather-own r rs) ∙ length-append (r .bytes) (gather (r .signal) rs)
-
-pub gather-other : (g : ℕ) (r : Item) (rs : List Item) → (r .signal ≡ g → ⊥) → gather g (r ∷ rs) ≡ gather g rs
-unfolding gather
-gather-other g r rs e = rw (ne-eqb (r .signal) g e) refl
 
 -- the numbers it keeps
 abbrev bumped : Item → List ℕ → List ℕ

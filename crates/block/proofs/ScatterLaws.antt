@@ -12,7 +12,7 @@ use Rattle.recording.specs.Work.{Item, gather}
 use Rattle.work.proofs.WorkLaws.{Below}
 use Rattle.block.specs.Passes.{keptAt, keep, scatter, Scatters}
 use Rattle.block.proofs.LayoutLaws.{laid, kept-laid, keep-laid, write-laid, length-laid}
-use Rattle.block.proofs.CountLaws.{gather-other, length-own}
+use Rattle.recording.proofs.GatherLaws.{length-own, gather-other}
 use Rattle.block.proofs.SlotLaws.{Slot, empty, room, marks, filling, nextSlot, advanced, moved}
 use Rattle.block.proofs.SlotLaws.{room-advance, length-marks, marks-advanced, filling-advanced, mark-fits}
 

@@ -12,7 +12,7 @@ use lib.Seq.{sets, drop-drop, getD-set-same, getD-set-other, length-take-le}
 use Rattle.recording.specs.Work.{Item, gather}
 use Rattle.work.proofs.WorkLaws.{Below}
 use Rattle.block.proofs.LayoutLaws.{sets-front, sets-after, sets-inside}
-use Rattle.block.proofs.CountLaws.{gather-own, gather-other}
+use Rattle.recording.proofs.GatherLaws.{gather-own, gather-other}
 
 -- a signal without stream bytes has no part
 pub data Slot : Type 0 where

@@ -1,7 +1,7 @@
 -- What a block is made of, as contracts name it: the records of the work and the signals' top classes; and the passes before and after the
 -- one over the signals' records.
 -- Assumes nothing.
-use Prim.Native.Nat.{ℕ, _+_, _*_}
+use Prim.Native.Nat.{ℕ}
 use mathlib.Core.Path.{_≡_}
 use mathlib.Core.List.{List, _++_, map}
 use mathlib.Core.Option.{some}
@@ -9,7 +9,7 @@ use lib.ListN.{length}
 use lib.Seq.{sets}
 use Rattle.numbers.specs.LittleEndian.{le}
 use Rattle.value.specs.Class.{classNumber}
-use Rattle.image.specs.Block.{les}
+use Rattle.image.specs.Block.{les, timesPlace}
 use Rattle.recording.specs.declared.SignalRecord.{SignalRecord}
 use Rattle.recording.specs.Work.{Item, itemsOf, itemsIn}
 use Rattle.block.specs.Passes.{clear, count, scatter, settle, Counts, Scatters, Settles}
@@ -23,7 +23,7 @@ topsOf rs = map (λ r. classNumber (r .top)) rs
 
 -- the bytes t with the head and the times
 abbrev pub fronted : (size held signals : ℕ) → (times : List ℕ) → List ℕ → List ℕ
-fronted size held s ts t = sets (sets t 0 (le 4 size ++ (le 4 held ++ le 4 s))) (12 + 4 * s) (les 8 ts)
+fronted size held s ts t = sets (sets t 0 (le 4 size ++ (le 4 held ++ le 4 s))) (timesPlace s) (les 8 ts)
 
 -- the passes before the parts begin: head, times, and each signal's stream bytes counted
 abbrev pub opened : (size held signals : ℕ) → (times : List ℕ) → List Item → List ℕ → List ℕ

@@ -3,21 +3,22 @@
 -- next of them goes, counted from the start of the data; at the end it is the offset.
 -- proofs/Passes: from work that divides into records, the passes leave `blockBytes`.
 -- Assumes nothing.
-use Prim.Native.Nat.{ℕ, zero, suc, _+_, _*_, _≤_, _<_}
+use Prim.Native.Nat.{ℕ, zero, suc, _+_, _≤_, _<_}
 use mathlib.Core.List.{List, [], _∷_}
 use lib.ListN.{length, take, drop}
 use lib.Seq.{sets}
 use lib.Dec.{eqb}
 use Rattle.lists.specs.Choice.{pick}
 use Rattle.numbers.specs.LittleEndian.{le, unle}
+use Rattle.image.specs.Block.{offsetPlace}
 use Rattle.recording.specs.Work.{Item}
 
 -- the number kept for a signal, and the bytes with another one kept
 abbrev pub keptAt : ℕ → List ℕ → ℕ
-keptAt g t = unle (take 4 (drop (12 + 4 * g) t))
+keptAt g t = unle (take 4 (drop (offsetPlace g) t))
 
 abbrev pub keep : ℕ → ℕ → List ℕ → List ℕ
-keep g v t = sets t (12 + 4 * g) (le 4 v)
+keep g v t = sets t (offsetPlace g) (le 4 v)
 
 -- 0 kept for n signals from g on
 unfoldable pub clear : (g n : ℕ) → List ℕ → List ℕ

@@ -1,5 +1,6 @@
 // The passes over the part of the image in which a block is made. All places count from the part's start.
 use image::SignalDataOffset;
+use image::layout::BLOCK_OFFSETS;
 use numbers::little_endian::get_u32;
 use numbers::little_endian::put_u32;
 use numbers::little_endian::put_u64;
@@ -9,24 +10,24 @@ ghost use Prim.Native.Nat.{_+_, _*_, _≤_, _<_};
 ghost use lib.ListN.{length, take, drop};
 ghost use lib.Seq.{sets};
 ghost use Rattle.value.specs.Class.{classNumber};
-ghost use Rattle.image.specs.Block.{les};
+ghost use Rattle.image.specs.Block.{les, offsetPlace, timesPlace};
 ghost use Rattle.recording.specs.Work.{itemsIn};
 ghost use Rattle.block.specs.Passes.{keptAt, keep, clear, count, begun, nextPart, scatter, endOf, settled, settle, Counts, Scatters, Settles};
 ghost use Rattle.block.specs.Given.{Divides};
 
 // The number kept for signal g.
 fn kept_for(tail: &[u8], g: usize) -> u32
-    requires { ⌜ 12 + 4 * g + 4 ≤ length (now tail) ⌝ }
+    requires { ⌜ offsetPlace g + 4 ≤ length (now tail) ⌝ }
     ensures { λ r. ⌜ r ≡ keptAt g (now (tail .entry)) ⌝ }
 {
-    get_u32(tail, 12 + 4 * g)
+    get_u32(tail, BLOCK_OFFSETS + 4 * g)
 }
 
 fn keep_for(tail: &mut [u8], g: usize, v: u32)
-    requires { ⌜ 12 + 4 * g + 4 ≤ length (now tail) ⌝ }
+    requires { ⌜ offsetPlace g + 4 ≤ length (now tail) ⌝ }
     ensures { λ _. ⌜ now (tail .exit) ≡ keep g v (now (tail .entry)) ⌝ }
 {
-    put_u32(tail, 12 + 4 * g, v);
+    put_u32(tail, BLOCK_OFFSETS + 4 * g, v);
 }
 
 // Writes the first held of the times from at on.
@@ -65,7 +66,7 @@ fn copy_bytes(tail: &mut [u8], to: usize, src: &[u8], from: usize, n: usize)
 
 // 0 is kept for each signal.
 pub fn clear_kept(tail: &mut [u8], signals: u32)
-    requires { ⌜ 12 + 4 * signals ≤ length (now tail) ⌝ }
+    requires { ⌜ timesPlace signals ≤ length (now tail) ⌝ }
     ensures { λ _. ⌜ now (tail .exit) ≡ clear 0 signals (now (tail .entry)) ⌝ }
 {
     let n = signals as usize;
@@ -78,7 +79,7 @@ pub fn clear_kept(tail: &mut [u8], signals: u32)
 
 // Each signal's stream bytes are counted.
 pub fn count_bytes(tail: &mut [u8], work: &[u8], signals: u32)
-    requires { ⌜ (12 + 4 * signals ≤ length (now tail)) × Divides signals (now work) × Counts (itemsIn signals (now work)) (now tail) ⌝ }
+    requires { ⌜ (timesPlace signals ≤ length (now tail)) × Divides signals (now work) × Counts (itemsIn signals (now work)) (now tail) ⌝ }
     ensures { λ _. ⌜ now (tail .exit) ≡ count (itemsIn signals (now (work .entry))) (now (tail .entry)) ⌝ }
 {
     let mut p = 0;
@@ -94,7 +95,7 @@ pub fn count_bytes(tail: &mut [u8], work: &[u8], signals: u32)
 // The part of signal g, if it has stream bytes, begins at place o of the data, which starts at byte d: the class byte is written, and
 // the place after it is kept. Answers where the next part begins.
 pub fn begin_part(tail: &mut [u8], d: usize, o: usize, g: usize, top: States) -> usize
-    requires { ⌜ (12 + 4 * g + 4 ≤ d) × (d + nextPart o g (now tail) ≤ length (now tail)) × (nextPart o g (now tail) < 4294967296) ⌝ }
+    requires { ⌜ (offsetPlace g + 4 ≤ d) × (d + nextPart o g (now tail) ≤ length (now tail)) × (nextPart o g (now tail) < 4294967296) ⌝ }
     ensures { λ r. ⌜ (r ≡ nextPart o g (now (tail .entry))) × (now (tail .exit) ≡ begun d o g (classNumber top) (now (tail .entry))) ⌝ }
 {
     let n = kept_for(tail, g) as usize;
@@ -108,7 +109,7 @@ pub fn begin_part(tail: &mut [u8], d: usize, o: usize, g: usize, top: States) ->
 
 // Each record's bytes go to its signal's next place.
 pub fn scatter_work(tail: &mut [u8], d: usize, work: &[u8], signals: u32)
-    requires { ⌜ (12 + 4 * signals ≤ d) × Divides signals (now work) × Scatters d (itemsIn signals (now work)) (now tail) ⌝ }
+    requires { ⌜ (timesPlace signals ≤ d) × Divides signals (now work) × Scatters d (itemsIn signals (now work)) (now tail) ⌝ }
     ensures { λ _. ⌜ now (tail .exit) ≡ scatter d (itemsIn signals (now (work .entry))) (now (tail .entry)) ⌝ }
 {
     let mut p = 0;
@@ -133,7 +134,7 @@ fn kept_plus_one(place: u32) -> SignalDataOffset
 // A part ends where the next one begins: the offset of signal g's part, if it has one, is the end o of the part before it, kept plus
 // one. Answers the end of the last part.
 fn settle_offset(tail: &mut [u8], o: u32, g: usize) -> u32
-    requires { ⌜ (12 + 4 * g + 4 ≤ length (now tail)) × (o + 1 < 4294967296) ⌝ }
+    requires { ⌜ (offsetPlace g + 4 ≤ length (now tail)) × (o + 1 < 4294967296) ⌝ }
     ensures { λ r. ⌜ (r ≡ endOf o g (now (tail .entry))) × (now (tail .exit) ≡ settled o g (now (tail .entry))) ⌝ }
 {
     let end = kept_for(tail, g);
@@ -147,7 +148,7 @@ fn settle_offset(tail: &mut [u8], o: u32, g: usize) -> u32
 
 // Each signal's offset takes the place of the number kept for it.
 pub fn settle_offsets(tail: &mut [u8], signals: u32)
-    requires { ⌜ (12 + 4 * signals ≤ length (now tail)) × Settles 0 0 signals (now tail) ⌝ }
+    requires { ⌜ (timesPlace signals ≤ length (now tail)) × Settles 0 0 signals (now tail) ⌝ }
     ensures { λ _. ⌜ now (tail .exit) ≡ settle 0 0 signals (now (tail .entry)) ⌝ }
 {
     let n = signals as usize;

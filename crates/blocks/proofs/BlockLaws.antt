@@ -123,7 +123,8 @@ sizes-eq S limit s at z n e r h f =
 pub front-says : (S limit : ℕ) (s : List ℕ) (at z n : ℕ) (x : BlockFront) → x ≡ frontAt S limit s at → x ≡ front.Sizes z n → Sizes S limit s at z n
 unfolding frontAt
 front-says S limit s at z n x p q =
-    by (leb (at + (12 + 4 * S)) (length s)) (eqb S (signalsIn s at)) (leb (blockSize S (timesIn s at) 0) (sizeIn s at)) refl (isYes (timesFit? limit (timesIn s at))) refl (leb (at + sizeIn s at) (length s)) refl (sym p ∙ q)
+    by (leb (at + (12 + 4 * S)) (length s)) (eqb S (signalsIn s at)) (leb (blockSize S (timesIn s at) 0) (sizeIn s at)) refl (isYes (timesFit? limit (timesIn s at))) refl
+    (leb (at + sizeIn s at) (length s)) refl (sym p ∙ q)
   where
     by : (a b c : Bool) → leb (blockSize S (timesIn s at) 0) (sizeIn s at) ≡ c → (d : Bool) → isYes (timesFit? limit (timesIn s at)) ≡ d → (e : Bool) → leb (at + sizeIn s at) (length s) ≡ e
         → tests a b c d e (front.Sizes (sizeIn s at) (timesIn s at)) front.Wrong ≡ front.Sizes z n → Sizes S limit s at z n
@@ -200,7 +201,8 @@ module _ (limit : ℕ) (ks : List SignalEncoding) (later : Bool) (end : ℕ) (s 
       (blockBody limit ks (endOf later end) s at y inside) z n (sym p ∙ q))
       ∙ finish-next (Yes (endOf later end) ks s t c) (uints 8 c s t) X (at + sizeIn s at) (λ e ps r' v. place-is (at + sizeIn s at) r' r (rest-is r f e ps r' v))
       ∙ ap (λ (u : Times). afterTimes u (atZero (startOf X)) (at + sizeIn s at)) (sym (times-yes c s t later end (omega arith)))
-      ∙ ap₂ (λ (b : ℕ) (K : List SignalEncoding). afterTimes (timesAt c s t later end) (atZero (startOf (partsFrom (drop b s) m c K (uints 4 (length ks) s (at + 12))))) (at + sizeIn s at)) base-is (sym k)
+      ∙ ap₂ (λ (b : ℕ) (K : List SignalEncoding). afterTimes (timesAt c s t later end) (atZero (startOf (partsFrom (drop b s) m c K (uints 4 (length ks) s (at + 12)))))
+      (at + sizeIn s at)) base-is (sym k)
 
   pub block-body : (x : BlockFront) (z n : ℕ) → x ≡ frontAt (length ks) limit s at → x ≡ front.Sizes z n → kindsAt (length ks) s 16 ≡ ks
       → bodyAt (length ks) z n s at later end ≡ nextBlockAt limit ks (endOf later end) s at

@@ -80,7 +80,8 @@ module _ (end : Option ℕ) (ks : List SignalEncoding) (s : List ℕ) (at n : �
   Yes = isYes (both (starts? end (uints 8 n s at)) (rising? (uints 8 n s at)))
 
   by-times : {P : Type 0} (D : Dec P) (t r : List ℕ) (f : List ℕ → Got (List OPart))
-      → andThen (andThen {B = List ℕ × List OPart} (gotIf (ifYes D t) r) (λ t r. andThen {B = List ℕ × List OPart} (f r) (λ ps q. got (t, ps) q))) (λ x q. gotIf (some (block (x .0) (x .1))) q) ≡ pick (isYes D) (blockGot t (f r)) bad
+      → andThen (andThen {B = List ℕ × List OPart} (gotIf (ifYes D t) r) (λ t r. andThen {B = List ℕ × List OPart} (f r) (λ ps q. got (t, ps) q)))
+      (λ x q. gotIf (some (block (x .0) (x .1))) q) ≡ pick (isYes D) (blockGot t (f r)) bad
   by-times (no p) t r f = refl
   by-times (yes p) t r f = go (f r)
     where
@@ -91,13 +92,17 @@ module _ (end : Option ℕ) (ks : List SignalEncoding) (s : List ℕ) (at n : �
   body-got : at + 8 * n ≤ length s → (l : List (Option ℕ))
       → body (layout n l) (drop at s) ≡ pick Yes (blockGot (uints 8 n s at) (each (walkPart n) ks l .get (drop (at + 8 * n) s))) bad
   body-got h l =
-      ap (λ (g : Got (List ℕ)). andThen (andThen {B = List ℕ × List OPart} (andThen g (λ x r. gotIf (ifYes (both (starts? end x) (rising? x)) x) r)) (λ t r. andThen {B = List ℕ × List OPart} (each (walkPart n) ks l .get r) (λ ps q. got (t, ps) q)))
+      ap (λ (g : Got (List ℕ)). andThen
+      (andThen {B = List ℕ × List OPart} (andThen g (λ x r. gotIf (ifYes (both (starts? end x) (rising? x)) x) r))
+      (λ t r. andThen {B = List ℕ × List OPart} (each (walkPart n) ks l .get r) (λ ps q. got (t, ps) q)))
       (λ x q. gotIf (some (block (x .0) (x .1))) q)) (uints-at 8 n s at h)
       ∙ by-times (both (starts? end (uints 8 n s at)) (rising? (uints 8 n s at))) (uints 8 n s at) (drop (at + 8 * n) s) (λ r. each (walkPart n) ks l .get r)
 
   body-short : at ≤ length s → length s < at + 8 * n → (l : List (Option ℕ)) → body (layout n l) (drop at s) ≡ bad
   body-short j h l =
-      ap (λ (g : Got (List ℕ)). andThen (andThen {B = List ℕ × List OPart} (andThen g (λ x r. gotIf (ifYes (both (starts? end x) (rising? x)) x) r)) (λ t r. andThen {B = List ℕ × List OPart} (each (walkPart n) ks l .get r) (λ ps q. got (t, ps) q)))
+      ap (λ (g : Got (List ℕ)). andThen
+      (andThen {B = List ℕ × List OPart} (andThen g (λ x r. gotIf (ifYes (both (starts? end x) (rising? x)) x) r))
+      (λ t r. andThen {B = List ℕ × List OPart} (each (walkPart n) ks l .get r) (λ ps q. got (t, ps) q)))
       (λ x q. gotIf (some (block (x .0) (x .1))) q)) (uints-short 8 n s at j h)
 
   finish-got : (t : List ℕ) (g : Got (List OPart)) → blockGot t g ≡ finish t (ofGot 0 g)
@@ -114,7 +119,8 @@ module _ (end : Option ℕ) (ks : List SignalEncoding) (s : List ℕ) (at n : �
   laid-finish h (laid zero l) =
       body-got h l ∙ ap (λ (g : Got (Block (List Entry))). pick Yes g bad) (finish-got (uints 8 n s at) (each (walkPart n) ks l .get (drop (at + 8 * n) s)))
   laid-finish h (laid (suc a) l) =
-      ap (λ (t : Bool). pick t (body (layout n l) (drop at s)) bad) (not-first a) ∙ sym (pick-same Yes bad) ∙ ap (λ (g : Got (Block (List Entry))). pick Yes g bad) (finish-bad (uints 8 n s at) a (each (walkPart n) ks l .get (drop (suc a) (drop (at + 8 * n) s))))
+      ap (λ (t : Bool). pick t (body (layout n l) (drop at s)) bad) (not-first a) ∙ sym (pick-same Yes bad)
+      ∙ ap (λ (g : Got (Block (List Entry))). pick Yes g bad) (finish-bad (uints 8 n s at) a (each (walkPart n) ks l .get (drop (suc a) (drop (at + 8 * n) s))))
 
   -- with room for m bytes of data
   pub body-is : (m : ℕ) (os : List ℕ) → length ks ≡ length os → at + 8 * n + m ≤ length s
@@ -131,7 +137,8 @@ module _ (end : Option ℕ) (ks : List SignalEncoding) (s : List ℕ) (at n : �
       short l e (yes q) = body-short j q l
       short l e (no q) =
           body-got (omega arith) l
-          ∙ ap (λ (g : Got (List OPart)). pick Yes (blockGot (uints 8 n s at) g) bad) (each-short n ks l (drop (at + 8 * n) s) (drop-bytes (at + 8 * n) s y) (omega (arith, length-drop (at + 8 * n) s)))
+          ∙ ap (λ (g : Got (List OPart)). pick Yes (blockGot (uints 8 n s at) g) bad)
+          (each-short n ks l (drop (at + 8 * n) s) (drop-bytes (at + 8 * n) s y) (omega (arith, length-drop (at + 8 * n) s)))
           ∙ pick-same Yes bad
 
       by : (L : Laid) → lengths m os ≡ L → laidBody n body (drop at s) L ≡ bad

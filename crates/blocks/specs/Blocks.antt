@@ -1,6 +1,6 @@
 -- A block at a place, as the code answers it: the place after it and its last time; its front and its body by tests.
 -- Assumes nothing.
-use Prim.Native.Nat.{ℕ, _+_, _-_, _*_, _≤_}
+use Prim.Native.Nat.{ℕ, _+_, _-_, _≤_}
 use mathlib.Core.Bool.{Bool}
 use mathlib.Core.List.{List}
 use mathlib.Core.Option.{Option}
@@ -12,7 +12,7 @@ use Rattle.lists.specs.Last.{lastOr}
 use Rattle.numbers.specs.LittleEndian.{unle}
 use Rattle.signal.specs.declared.kind.SignalEncoding.{SignalEncoding}
 use Rattle.stream.specs.Entries.{Entry}
-use Rattle.image.specs.Block.{Block, blockSize}
+use Rattle.image.specs.Block.{Block, blockSize, timesPlace}
 use Rattle.form.specs.Decide.{le?, both}
 use Rattle.codec.specs.Walk.{walkBlock}
 use Rattle.reading.specs.Decided.{isYes, uints}
@@ -54,7 +54,7 @@ tests a b c d e x y = pick a (pick b (pick c (pick d (pick e x y) y) y) y) y
 -- room for the front, the same signals, room for the times in the block, enough times, room for the block
 abbrev pub frontTests : {A : Type 0} → (signals limit : ℕ) → List ℕ → (at : ℕ) → A → A → A
 frontTests S limit s at x y =
-    tests (leb (at + (12 + 4 * S)) (length s)) (eqb S (signalsIn s at)) (leb (blockSize S (timesIn s at) 0) (sizeIn s at)) (isYes (timesFit? limit (timesIn s at)))
+    tests (leb (at + timesPlace S) (length s)) (eqb S (signalsIn s at)) (leb (blockSize S (timesIn s at) 0) (sizeIn s at)) (isYes (timesFit? limit (timesIn s at)))
     (leb (at + sizeIn s at) (length s)) x y
 
 unfoldable pub frontAt : (signals limit : ℕ) → List ℕ → (at : ℕ) → BlockFront
@@ -66,5 +66,5 @@ afterTimes (times.Last u) t p = pick t (At p u) Wrong
 
 unfoldable pub bodyAt : (signals size times : ℕ) → List ℕ → (at : ℕ) → (later : Bool) → (end : ℕ) → NextBlock
 bodyAt S z n s at later end =
-    afterTimes (timesAt n s (at + (12 + 4 * S)) later end)
+    afterTimes (timesAt n s (at + timesPlace S) later end)
     (areParts (drop (at + blockSize S n 0) s) (z - blockSize S n 0) n (kindsAt S s 16) (uints 4 S s (at + 12))) (at + z)

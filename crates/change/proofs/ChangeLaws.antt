@@ -37,5 +37,5 @@ module _ (m : Memory) (g : ℕ) where
       sym
       (guarded-whole (openTests m) _
       (guarded-whole (earlyTests (m .state)) _
-      (picked-by (afterChange m g) (m .state .skip) _ _ (rw (set-getD (m .records) g _) refl)
+      (picked-by (afterChange m g) (m .state .skips .on) _ _ (rw (set-getD (m .records) g _) refl)
       (guarded-whole (signalTests (m .state) (recordAt m g) g) _ (by-whole (decode (recordAt m g .kind) v))))))

@@ -5,11 +5,10 @@ use mathlib.Core.Path.{_≡_, refl, sym, ap, _∙_}
 use mathlib.Core.Bool.{Bool, true, false, _||_}
 use mathlib.Core.List.{List, [], _∷_}
 use native.Mathlib.Omega.{arith}
-use native.Mathlib.Decide.{ℕ-discrete}
-use borrow.Author.Tests.{ltb-false, lt-ltb, le-ltb, le-leb, lt-leb, eq-eqb, ne-eqb}
+use borrow.Author.Tests.{ltb-false}
 use lib.ListN.{length}
 use lib.Seq.{sets}
-use lib.Dec.{ltb, leb}
+use lib.Dec.{leb}
 use Rattle.lists.specs.Choice.{pick}
 use Rattle.lists.proofs.ChoiceLaws.{none-holds}
 use Rattle.value.specs.Class.{classNumber, statesOf}
@@ -19,7 +18,7 @@ use Rattle.signal.specs.declared.kind.SignalEncoding.{SignalEncoding}
 use Rattle.signal.specs.declared.kind.SignalEncoding.the-variants.{BitVector, Real, Absent}
 use Rattle.signal.specs.declared.decode.ChangeValue.{ChangeValue}
 use Rattle.signal.specs.declared.decode.DecodedChange.the-variants.{Change, Refused}
-use Rattle.signal.specs.Kind.{widthOf, knownKind, absent}
+use Rattle.signal.specs.Kind.{widthOf, absent}
 use Rattle.signal.specs.Content.{Given, vcd, raw, real, Decoded, refuse, accept, contentOf, decode}
 use Rattle.signal.specs.Answer.{decodedAs}
 use Rattle.stream.specs.Stream.{changeBytes}
@@ -28,17 +27,16 @@ use Rattle.recording.specs.declared.Encoder.{Encoder}
 use Rattle.recording.specs.declared.SignalRecord.{SignalRecord}
 use Rattle.recording.specs.declared.Answer.{Answer}
 use Rattle.recording.specs.Calls.{replyOf, say, recorded, skipped}
-use Rattle.recording.specs.Memory.{Tests, first, guarded}
+use Rattle.recording.specs.Memory.{Tests, guarded}
 use Rattle.recording.specs.Refusals.{stateTests, earlyTests, roomTests}
 use Rattle.recording.specs.Step.{skippedOne}
-use Rattle.recording.proofs.TestsLaws.{guarded-none, guarded-first}
-use Rattle.refusals.proofs.StateLaws.{state-positive, sound}
-use Rattle.change.specs.declared.admission.Admission.{Admission}
-use Rattle.change.specs.declared.admission.Admission.the-variants as admission
-use Rattle.change.specs.declared.item.ItemStart.{ItemStart}
-use Rattle.change.specs.declared.item.ItemStart.the-variants as start
-use Rattle.change.specs.Found.{Found, found, working, risen, foundRefused, foundDone, foundBy, foundOf}
-use Rattle.change.specs.Stages.{admissionOf, itemStartOf, itemBegun}
+use Rattle.admission.specs.declared.Admission.{Admission}
+use Rattle.admission.specs.declared.Admission.the-variants as admission
+use Rattle.admission.specs.declared.item.ItemStart.{ItemStart}
+use Rattle.admission.specs.declared.item.ItemStart.the-variants as start
+use Rattle.admission.specs.Stages.{working, risen, admissionOf, itemStartOf, itemBegun}
+use Rattle.admission.proofs.StageLaws.{signalled, heard}
+use Rattle.change.specs.Found.{Found, found, foundRefused, foundDone, foundBy, foundOf}
 use Rattle.change.proofs.NotationLaws.{item-written, given-length}
 
 -- ---- a function of what the tests choose
@@ -53,47 +51,6 @@ module _ {A B : Type 0} (f : A → B) where
   guarded-by (t ∷ ts) x y e h = picked-by (t .0) _ _ (e (t .1)) (guarded-by ts x y e h)
 
 -- ---- the tests before the value
-
--- past the tests of the state and of the times
-abbrev signalled : Encoder → (signal : ℕ) → Admission
-signalled s g = pick (leb (s .signals) g) (admission.Refused 4) admission.Taken
-
-abbrev pub heard : Encoder → (signal : ℕ) → Admission
-heard s g = pick (s .skip) admission.Skipped (signalled s g)
-
-module _ (s : Encoder) (records times work image g : ℕ) where
-  abbrev asked : Tests
-  asked = stateTests s records times work image
-
-  pub admitted-state : (first asked ≡ 0 → ⊥) → admissionOf s records times work image g ≡ admission.Refused (first asked)
-  unfolding admissionOf
-  admitted-state n = guarded-first asked admission.Refused _ n
-
-  admitted-past : first asked ≡ 0 → admissionOf s records times work image g ≡ guarded (earlyTests s) admission.Refused (heard s g)
-  unfolding admissionOf
-  admitted-past z = guarded-none asked admission.Refused _ (state-positive s records times work image) z
-
-  pub admitted-early : first asked ≡ 0 → s .held ≡ 0 → admissionOf s records times work image g ≡ admission.Refused 3
-  admitted-early z h = admitted-past z ∙ rw (eq-eqb (s .held) 0 h) refl
-
-  pub admitted-timed : first asked ≡ 0 → (s .held ≡ 0 → ⊥) → admissionOf s records times work image g ≡ heard s g
-  admitted-timed z h = admitted-past z ∙ rw (ne-eqb (s .held) 0 h) refl
-
--- what holds where the value is looked at
-pub record Ready (s : Encoder) (work : ℕ) : Type 0 where
-  pub timed : 0 < s .held
-  pub held : s .held ≤ 65535
-  pub worked : s .work ≤ work
-
-pub taken-ready : (s : Encoder) (records times work image g : ℕ) → admissionOf s records times work image g ≡ admission.Taken → Ready s work
-taken-ready s records times work image g e = by (ℕ-discrete (first (stateTests s records times work image)) 0) (ℕ-discrete (s .held) 0)
-  where
-    by : Dec (first (stateTests s records times work image) ≡ 0) → Dec (s .held ≡ 0) → Ready s work
-    by (no n) d = let q = admitted-state s records times work image g n in let z : _≡_ {A = ℕ} 0 1 = cc in absurd (omega arith)
-    by (yes z) (yes h) = let q = admitted-early s records times work image g z h in let z : _≡_ {A = ℕ} 0 1 = cc in absurd (omega arith)
-    by (yes z) (no h) =
-        let a = sound s records times work image z in
-        record { timed = omega arith; held = omega (arith, a .held, a .high); worked = a .worked }
 
 module _ (s : Encoder) (r : SignalRecord) (w : List ℕ) (g : ℕ) (v : Given) where
   abbrev pub byAdmission : Admission → Found
@@ -123,7 +80,7 @@ module _ (s : Encoder) (r : SignalRecord) (w : List ℕ) (g : ℕ) (v : Given) w
   found-admitted records times image =
       guarded-by byAdmission (stateTests s records times (length w) image) _ _ (λ n. refl)
       (guarded-by byAdmission (earlyTests s) admission.Refused (heard s g) (λ n. refl)
-      (picked-by byAdmission (s .skip) admission.Skipped (signalled s g) refl (by-signal (leb (s .signals) g))))
+      (picked-by byAdmission (s .skips .on) admission.Skipped (signalled s g) refl (by-signal (leb (s .signals) g))))
 
   -- j is the answer that the code meets
   pub found-after : (records times image : ℕ) {i j : Admission} → i ≡ admissionOf s records times (length w) image g → i ≡ j
@@ -160,32 +117,6 @@ found-written : (s : Encoder) (r : SignalRecord) (w : List ℕ) (g : ℕ) (d : D
 unfolding foundBy
 found-written s r w g (refuse n) v t e = let z : _≡_ {A = ℕ} 0 1 = cc in absurd (omega arith)
 found-written s r w g (accept a c) v t e = let q : statesOf c ≡ t = cc in rw (max-states (classNumber (r .top)) c, q) refl
-
-known-width : (k : SignalEncoding) → knownKind k ≡ leb (widthOf k) 65536
-known-width (BitVector w) = refl
-known-width Real = refl
-known-width Absent = refl
-
--- the tests of room, as the code finds the width and the length
-module _ (s : Encoder) (r : SignalRecord) (work : ℕ) (v : ChangeValue) where
-  pub start-beyond : s .held - 1 < r .index → start.Refused 10 ≡ itemStartOf s r work v
-  unfolding itemStartOf
-  start-beyond h = rw (lt-ltb (s .held - 1) (r .index) h) refl
-
-  pub start-wide : {x : ℕ} → x ≡ widthOf (r .kind) → r .index ≤ s .held - 1 → 65536 < x → start.Refused 10 ≡ itemStartOf s r work v
-  unfolding itemStartOf
-  start-wide {x} p h k = rw (le-ltb (s .held - 1) (r .index) h, known-width (r .kind), ← p, lt-leb x 65536 k) refl
-
-  module _ {x n : ℕ} (p : x ≡ widthOf (r .kind)) (q : n ≡ changeLength x (s .held - 1 - r .index) v) (h : r .index ≤ s .held - 1) (k : x ≤ 65536) where
-    start-known : itemStartOf s r work v ≡ pick (ltb work (s .work + (8 + n))) (start.Refused 7) (start.Length n)
-    unfolding itemStartOf
-    start-known = rw (le-ltb (s .held - 1) (r .index) h, known-width (r .kind), ← p, le-leb x 65536 k, ← q) refl
-
-    pub start-full : work - s .work < 8 + n → start.Refused 7 ≡ itemStartOf s r work v
-    start-full f = let g : work < s .work + (8 + n) = omega arith in sym (start-known ∙ rw (lt-ltb work (s .work + (8 + n)) g) refl)
-
-    pub start-done : s .work + (8 + n) ≤ work → start.Length n ≡ itemStartOf s r work v
-    start-done f = sym (start-known ∙ rw (le-ltb work (s .work + (8 + n)) f) refl)
 
 -- what holds where the record of n stream bytes begins
 pub record Room (s : Encoder) (r : SignalRecord) (work : ℕ) (stream : List ℕ) (n : ℕ) : Type 0 where

@@ -1,6 +1,6 @@
 -- Laws of a value's change by its notation: its bytes, their length, and its record in the work buffer.
 -- Assumes nothing.
-use Prim.Native.Nat.{ℕ, _+_, _≤_}
+use Prim.Native.Nat.{ℕ, _+_}
 use mathlib.Core.Path.{_≡_, refl, _∙_}
 use mathlib.Core.List.{List, _++_, append-assoc}
 use native.Mathlib.Omega.{arith}
@@ -9,9 +9,7 @@ use lib.Seq.{sets}
 use Rattle.lists.proofs.SetsLaws.{sets-append}
 use Rattle.numbers.specs.Leb128.{lebOf}
 use Rattle.numbers.specs.LittleEndian.{le}
-use Rattle.numbers.proofs.Leb128Laws.{length-leb}
 use Rattle.numbers.proofs.LittleEndianLaws.{length-le}
-use Rattle.value.specs.declared.states.States.the-variants.{Two, Four, Nine}
 use Rattle.signal.specs.declared.kind.SignalEncoding.{SignalEncoding}
 use Rattle.signal.specs.declared.kind.SignalEncoding.the-variants.{BitVector, Real, Absent}
 use Rattle.signal.specs.declared.decode.ChangeValue.{ChangeValue}
@@ -19,8 +17,8 @@ use Rattle.signal.specs.declared.decode.ChangeValue.the-variants as signal
 use Rattle.signal.specs.Kind.{widthOf}
 use Rattle.signal.specs.Content.{bits, Given, vcd, raw, real, decode}
 use Rattle.stream.specs.Stream.{changeBytes}
-use Rattle.stream.specs.Answer.{changeNumber, tailLength, changeLength, Says, saidBytes}
-use Rattle.stream.proofs.SaysLaws.{says-length}
+use Rattle.stream.specs.Answer.{changeLength, Says, saidBytes}
+use Rattle.stream.proofs.LengthLaws.{says-length}
 use Rattle.recording.specs.Work.{item, itemBytes}
 
 -- only a real's signal hears a real
@@ -30,15 +28,19 @@ real-said (BitVector w) d b v (t, e) = let z : _≡_ {A = ℕ} 0 1 = cc in absur
 real-said Real d b v s = refl
 real-said Absent d b v (t, e) = let z : _≡_ {A = ℕ} 0 1 = cc in absurd (omega arith)
 
--- the two numbers of a record's head, written one after the other
-pub head-written : (w w₁ w₂ : List ℕ) (at g n next : ℕ) → next ≡ at + 4 → w₁ ≡ sets w at (le 4 g) → w₂ ≡ sets w₁ next (le 4 n)
-    → w₂ ≡ sets w at (le 4 g ++ le 4 n)
-head-written w w₁ w₂ at g n next p h i = i ∙ rw (h, p, sets-append (le 4 g) (le 4 n) w at, length-le 4 g) refl
-
 -- a record's head and its stream bytes, written one after the other
 pub item-written : (w w₁ w₂ : List ℕ) (at g n : ℕ) (b : List ℕ) → n ≡ length b → w₁ ≡ sets w at (le 4 g ++ le 4 n) → w₂ ≡ sets w₁ (at + 8) b
     → w₂ ≡ sets w at (itemBytes (item g b))
-item-written w w₁ w₂ at g n b e h i = i ∙ rw (h, e, ← (append-assoc (le 4 g) (le 4 (length b)) b), sets-append (le 4 g ++ le 4 (length b)) b w at, length-append (le 4 g) (le 4 (length b)), length-le 4 g, length-le 4 (length b)) refl
+item-written w w₁ w₂ at g n b e h i =
+    i ∙ rw (
+      h,
+      e,
+      ← (append-assoc (le 4 g) (le 4 (length b)) b),
+      sets-append (le 4 g ++ le 4 (length b)) b w at,
+      length-append (le 4 g) (le 4 (length b)),
+      length-le 4 g,
+      length-le 4 (length b),
+    ) refl
 
 -- the length of a value's change, known from decoding's answer
 pub given-length : (k : SignalEncoding) (d : ℕ) (x : Given) (v : ChangeValue) → Says k x v → length (saidBytes k d x) ≡ changeLength (widthOf k) d v
@@ -48,15 +50,3 @@ given-length k d (raw c s) v h = says-length k d (raw c s) v tt h
 given-length (BitVector w) d (real b) v (t, e) = let z : _≡_ {A = ℕ} 0 1 = cc in absurd (omega arith)
 given-length Real d (real b) v (t, e) = let q : signal.Real b ≡ v = cc in rw (← q, length-append (lebOf d) (le 8 b), length-le 8 b) refl
 given-length Absent d (real b) v (t, e) = let z : _≡_ {A = ℕ} 0 1 = cc in absurd (omega arith)
-
--- a change of a known kind is short
-tail-short : (w : ℕ) (v : ChangeValue) → w ≤ 65536 → tailLength w v ≤ 32768
-tail-short w signal.Event h = omega arith
-tail-short w (signal.SingleBit b) h = omega arith
-tail-short w (signal.MultiBit Two) h = omega arith
-tail-short w (signal.MultiBit Four) h = omega arith
-tail-short w (signal.MultiBit Nine) h = omega arith
-tail-short w (signal.Real b) h = omega arith
-
-pub change-short : (w d : ℕ) (v : ChangeValue) → w ≤ 65536 → changeLength w d v ≤ 32773
-change-short w d v h = omega (arith, length-leb (changeNumber d v), tail-short w v h)

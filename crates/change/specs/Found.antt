@@ -1,30 +1,22 @@
 -- What a change does to the state, to its signal's record and to the work buffer: `changeOf` (crate recording) as far as it concerns
 -- them (proofs/ChangeLaws).
 -- Assumes nothing.
-use Prim.Native.Nat.{ℕ, _+_, _-_, max}
+use Prim.Native.Nat.{ℕ, _+_, _-_}
 use mathlib.Core.List.{List}
 use lib.ListN.{length, set}
 use lib.Seq.{sets}
 use Rattle.lists.specs.Choice.{pick}
-use Rattle.value.specs.Class.{classNumber, statesOf}
-use Rattle.signal.specs.Content.{Given, vcd, raw, real, Decoded, refuse, accept, decode}
+use Rattle.signal.specs.Content.{Given, Decoded, refuse, accept, decode}
 use Rattle.stream.specs.Stream.{changeBytes}
 use Rattle.recording.specs.declared.Encoder.{Encoder}
 use Rattle.recording.specs.declared.SignalRecord.{SignalRecord}
 use Rattle.recording.specs.Calls as calls
 use Rattle.recording.specs.Calls.{Reply, say, recorded, skipped}
 use Rattle.recording.specs.Work.{item, itemBytes}
-use Rattle.recording.specs.Memory.{Memory, memory, After, after, recordOf, guarded}
+use Rattle.recording.specs.Memory.{Memory, memory, After, after, guarded}
 use Rattle.recording.specs.Refusals.{stateTests, earlyTests, signalTests, roomTests}
-use Rattle.recording.specs.Step.{encoder, skippedOne}
-use Rattle.change.specs.declared.notation.Value.{Value}
-use Rattle.change.specs.declared.notation.Value.the-variants as value
-
--- what is given by a value's notation and its bytes
-abbrev pub givenOf : Value → List ℕ → Given
-givenOf value.Vcd s = vcd s
-givenOf (value.Raw c) s = raw c s
-givenOf (value.Real b) s = real b
+use Rattle.recording.specs.Step.{skippedOne}
+use Rattle.admission.specs.Stages.{working, risen}
 
 pub record Found : Type 0 where
   pub reply : Reply
@@ -34,12 +26,6 @@ pub record Found : Type 0 where
 
 abbrev pub found : Reply → Encoder → SignalRecord → List ℕ → Found
 found a s r w = record { reply = a; state = s; kept = r; work = w }
-
-abbrev pub working : Encoder → (n : ℕ) → Encoder
-working s n = encoder (s .closed) (s .limit) (s .signals) (s .held) (s .work + n) (s .image) (s .blocks) (s .skip) (s .skipped)
-
-abbrev pub risen : Encoder → SignalRecord → (c : ℕ) → SignalRecord
-risen s r c = recordOf (r .kind) (s .held - 1) (statesOf (max (classNumber (r .top)) c))
 
 abbrev pub foundRefused : Encoder → SignalRecord → List ℕ → ℕ → Found
 foundRefused s r w n = found (calls.refuse n) s r w
@@ -57,7 +43,7 @@ unfoldable pub foundOf : Encoder → SignalRecord → (records times image : ℕ
 foundOf s r records times image w g v =
     guarded (stateTests s records times (length w) image) (foundRefused s r w)
     (guarded (earlyTests s) (foundRefused s r w)
-    (pick (s .skip) (found (say skipped) (skippedOne s) r w)
+    (pick (s .skips .on) (found (say skipped) (skippedOne s) r w)
     (guarded (signalTests s r g) (foundRefused s r w)
     (foundBy s r w g (decode (r .kind) v)))))
 

@@ -1,94 +1,40 @@
 // A change, as far as it concerns the state, its signal's record and the work buffer. Document 01, 'Recording' and 'Turned back'.
 //
 // All is decided on one record by value, so that it does not matter how records are stored. The contracts cite specs/Found.antt, which
-// is `changeOf` of crate recording for one record; specs/Stages.antt says what is answered on the way.
+// is `changeOf` of crate recording for one record; crate admission says what is answered on the way.
 //
 // Each notation has its own path from the tests to the bytes, so that each call compiles into one function.
-use crate::admission::Admission;
-use crate::admission::admitted;
-use crate::item::ItemStart;
-use crate::item::begin_item;
-use crate::notation::Value;
-use recording::Answer;
+use admission::Admission;
+use admission::admitted;
+use admission::changed::Changed;
+use admission::changed::recorded;
+use admission::changed::refused;
+use admission::changed::skipped;
+use admission::item::ItemStart;
+use admission::item::begin_item;
+use change_notation::Value;
 use recording::Encoder;
+use recording::Lengths;
 use recording::SignalRecord;
-use recording::SignalRef;
-use refusals::Lengths;
+use signal::SignalRef;
 use signal::decode::ChangeValue;
 use signal::decode::DecodedChange;
-use signal::decode::decode_raw;
-use signal::decode::decode_real;
-use signal::decode::decode_vcd;
-use stream::write::put_raw_change;
-use stream::write::put_real_change;
-use stream::write::put_vcd_change;
+use signal_decode::decode_raw;
+use signal_decode::decode_real;
+use signal_decode::decode_vcd;
+use stream_write::put_raw_change;
+use stream_write::put_real_change;
+use stream_write::put_vcd_change;
 use value::states::States;
 ghost use mathlib.Core.Path.{_≡_};
-ghost use Prim.Native.Nat.{_+_, _≤_, _<_};
+ghost use Prim.Native.Nat.{_≤_, _<_};
 ghost use lib.ListN.{length};
-ghost use Rattle.value.specs.Class.{classNumber};
 ghost use Rattle.signal.specs.Content.{vcd, raw, real, decode};
 ghost use Rattle.signal.specs.Answer.{decodedAs};
 ghost use Rattle.signal.specs.declared.decode.DecodedChange.the-variants as decoded;
 ghost use Rattle.recording.specs.Calls.{replyOf};
-ghost use Rattle.recording.specs.Step.{skippedOne};
-ghost use Rattle.change.specs.Found.{givenOf, found, foundBy, foundOf, working, risen};
-
-pub mod admission;
-pub mod item;
-pub mod notation;
-
-// What a change answers, with the state and the signal's record after it.
-pub struct Changed {
-    pub answer: Answer,
-    pub state: Encoder,
-    pub kept: SignalRecord,
-}
-
-// A refusal by its number: nothing changes.
-fn refused(n: u32, state: Encoder, kept: SignalRecord) -> Changed
-    ensures { λ r. ⌜ (r .answer ≡ Answer.Refused n) × (r .state ≡ state) × (r .kept ≡ kept) ⌝ }
-{
-    Changed {
-        answer: Answer::Refused(n),
-        state,
-        kept,
-    }
-}
-
-// A change in a skip is counted, up to the top of the count.
-fn skipped(state: Encoder, kept: SignalRecord) -> Changed
-    ensures { λ r. ⌜ (r .answer ≡ Answer.Skipped) × (r .state ≡ skippedOne state) × (r .kept ≡ kept) ⌝ }
-{
-    let n = state.skipped;
-    let mut after = state;
-    if n < 4294967295 {
-        after.skipped = n + 1;
-    }
-    Changed {
-        answer: Answer::Skipped,
-        state: after,
-        kept,
-    }
-}
-
-// The work buffer has n more bytes; the record has the last time's index, and its top class is at least the value's.
-fn recorded(state: Encoder, kept: SignalRecord, n: usize, states: States) -> Changed
-    requires { ⌜ (state .work + n < 18446744073709551616) × (0 < state .held) ⌝ }
-    ensures { λ r. ⌜ (r .answer ≡ Answer.Recorded) × (r .state ≡ working state n) × (r .kept ≡ risen state kept (classNumber states)) ⌝ }
-{
-    let mut after = state;
-    after.work = state.work + n as u64;
-    let kind = kept.kind;
-    let index = state.held - 1;
-    let top = kept.top;
-    let top = States::join(top, states);
-    Changed {
-        answer: Answer::Recorded,
-        state: after,
-        kept: SignalRecord { kind, index, top },
-    }
-}
+ghost use Rattle.change_notation.specs.Notation.{givenOf};
+ghost use Rattle.change.specs.Found.{found, foundBy, foundOf};
 
 // A VCD value that decodes to change and states is written into the work buffer, unless 10 (second group) or 7 refuses it.
 fn record_vcd(

@@ -112,9 +112,13 @@ others =
     ∷ []
 
 pub images-open : map (λ (b : List ℕ). isSome (parse b)) images ≡ map (λ (b : List ℕ). true) images
-unfolding les parse imageForm headForm blockForm layoutForm repeat each lengths unle readLeb stream getChain readChange valueAfter unpacked classOfAll allSymbols digits numberOf lastOr imageBytes blocksBytes streamedParts streamBytes headBytes blockBytes dataOf offsetsFrom le lebOf groups changeBytes packed risingFrom? rising? eachBelow? knownKinds? contentFits? entryFits? entriesFit? partFits? partsFit? starts? blockFits? blocksFit? valid?
+unfolding les parse imageForm headForm blockForm layoutForm repeat each lengths unle readLeb stream getChain readChange valueAfter unpacked classOfAll allSymbols digits numberOf
+    lastOr imageBytes blocksBytes streamedParts streamBytes headBytes blockBytes dataOf offsetsFrom le lebOf groups changeBytes packed risingFrom? rising? eachBelow? knownKinds?
+    contentFits? entryFits? entriesFit? partFits? partsFit? starts? blockFits? blocksFit? valid?
 images-open = refl
 
 pub others-do-not : map (λ (b : List ℕ). isSome (parse b)) others ≡ map (λ (b : List ℕ). false) others
-unfolding les parse imageForm headForm blockForm layoutForm repeat each lengths unle readLeb stream getChain readChange valueAfter unpacked classOfAll allSymbols digits numberOf lastOr imageBytes blocksBytes streamedParts streamBytes headBytes blockBytes dataOf offsetsFrom le lebOf groups changeBytes packed risingFrom? rising? eachBelow? knownKinds? contentFits? entryFits? entriesFit? partFits? partsFit? starts? blockFits? blocksFit? valid?
+unfolding les parse imageForm headForm blockForm layoutForm repeat each lengths unle readLeb stream getChain readChange valueAfter unpacked classOfAll allSymbols digits numberOf
+    lastOr imageBytes blocksBytes streamedParts streamBytes headBytes blockBytes dataOf offsetsFrom le lebOf groups changeBytes packed risingFrom? rising? eachBelow? knownKinds?
+    contentFits? entryFits? entriesFit? partFits? partsFit? starts? blockFits? blocksFit? valid?
 others-do-not = refl

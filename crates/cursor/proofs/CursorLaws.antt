@@ -24,13 +24,13 @@ use Rattle.loaded.specs.Reader.{unknownSignal, shownAs, entryReply, cursorAfter
 use Rattle.entry.specs.Read.{contentRead}
 use Rattle.walk.specs.Walk.{Opened, imageIn}
 use Rattle.walk.proofs.HeadLaws.{means, kind-past}
-use Rattle.entry.specs.declared.kept.KeptChange.the-variants as kept
-use Rattle.cursor.specs.declared.point.Pointing.{Pointing}
-use Rattle.entry.specs.Kept.{keptContent}
-use Rattle.cursor.specs.Point.{Point, unpointed, blocksPassed, pointAs}
+use Rattle.entry_same.specs.declared.kept.KeptChange.the-variants as kept
+use Rattle.cursor_point.specs.declared.Pointing.{Pointing}
+use Rattle.entry_same.specs.Kept.{keptContent}
+use Rattle.cursor_point.specs.Point.{Point, unpointed, blocksPassed, pointAs}
 use Rattle.cursor.specs.Shown.{Shows}
-use Rattle.cursor.proofs.PointLaws.{holding}
-use Rattle.cursor.proofs.LoadLaws.{points-loads}
+use Rattle.cursor_point.proofs.PointLaws.{holding}
+use Rattle.cursor_point.proofs.LoadLaws.{points-loads}
 
 -- ---- the entry that is held
 
@@ -102,6 +102,7 @@ module _ (b : List ℕ) (g t : ℕ) (out : List ℕ) (k : SignalEncoding) (a : B
     pub cursor-found : (v : ChangeValue) (n : ℕ) (r : declared.Entry) (new : List ℕ) → s .found ≡ kept.Change v n → Shows r out new (contentRead k b v n)
         → cursorAfter (found (s .number) (s .time) (entryReply r)) new ≡ cursorIn (imageIn b) g t out
     cursor-found v n r new z d =
-        rw (d .0, d .2) (one-held (loads g (imageIn b .blocks) .times) t (loads g (imageIn b .blocks) .entries) out (s .number) (s .time) (contentRead k b v n) (sym (ap (λ (x : Point). x .number) held)) (sym (ap (λ (x : Point). x .time) held))
+        rw (d .0, d .2) (one-held (loads g (imageIn b .blocks) .times) t (loads g (imageIn b .blocks) .entries) out (s .number) (s .time) (contentRead k b v n)
+        (sym (ap (λ (x : Point). x .number) held)) (sym (ap (λ (x : Point). x .time) held))
         (sym (ap (λ (x : Point). x .content) held) ∙ ap (keptContent k b) z))
         ∙ sym (cursor-fits w h q l)

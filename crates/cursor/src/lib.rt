@@ -1,14 +1,11 @@
 // The cursor over an accepted image: document 01, 'Loaded signal'.
 //
-// One pass over a signal's changes, repeats dropped as in loading, that holds the number, the time and the change of the last entry so far
-// with time at or before t (point.rt); then that entry's value (shown.rt). Nothing is loaded. What the pass does is specs/Point.antt; that it finds the entry which `cursorIn` of the
-// crate loaded names is proved in proofs/PointLaws and proofs/LoadLaws.
-pub mod point;
+// One pass over a signal's changes finds the entry (crate `cursor_point`); then that entry's value is answered (shown.rt). Nothing is loaded.
 pub mod shown;
 
-use crate::point::point_at;
 use crate::shown::value_at;
-use entry::kept::KeptChange;
+use cursor_point::point_at;
+use entry_same::kept::KeptChange;
 use loaded::CursorAnswer;
 use walk::head::kind_at;
 ghost use mathlib.Core.Path.{_≡_};

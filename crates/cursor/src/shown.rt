@@ -1,11 +1,11 @@
 // One entry's value, out of the change in the image.
-use entry::answer::event_entry;
-use entry::answer::symbols_entry;
 use entry::read::bit_in;
 use entry::read::bits_in;
 use entry::read::states_in;
-use packed::bytes_required;
-use packed::unpack;
+use entry_answer::event_entry;
+use entry_answer::symbols_entry;
+use packed_symbols::bytes_required;
+use packed_symbols::unpack;
 use signal::decode::ChangeValue;
 use signal::kind::SignalEncoding;
 use value::real::Entry;

@@ -1,7 +1,7 @@
 -- A cut in the image: the size of its block before the first byte is written, and the block's passes in the part of the image that follows
 -- the used bytes.
 -- Assumes nothing.
-use Prim.Native.Nat.{ℕ, _+_, _-_, _*_, _≤_, _<_}
+use Prim.Native.Nat.{ℕ, _+_, _-_, _≤_, _<_}
 use mathlib.Core.List.{List, _++_}
 use mathlib.Core.Option.{Option, some, none}
 use lib.ListN.{length, take, drop, getD, set}
@@ -9,10 +9,9 @@ use lib.Seq.{sets}
 use lib.Dec.{ltb}
 use Rattle.lists.specs.Choice.{pick}
 use Rattle.numbers.specs.LittleEndian.{le}
-use Rattle.image.specs.Block.{blockSize}
+use Rattle.image.specs.Block.{blockSize, frontSize}
 use Rattle.recording.specs.declared.Encoder.{Encoder}
 use Rattle.recording.specs.Work.{Item, itemsOf, itemsIn}
-use Rattle.recording.specs.Step.{encoder}
 use Rattle.work.specs.Measure.{dataLength}
 use Rattle.block.specs.Given.{Divides, opened, closed, Opens, Closes}
 use Rattle.cut.specs.declared.CutSize.{CutSize}
@@ -31,10 +30,6 @@ sizeOf s image (some is) =
 unfoldable pub sized : Encoder → (work : List ℕ) → (image : ℕ) → CutSize
 sized s w image = sizeOf s image (itemsOf (s .work) (s .signals) (take (s .work) w))
 
--- the state after a cut of a block of so many bytes
-abbrev pub cutState : Encoder → (size : ℕ) → Encoder
-cutState s n = encoder (s .closed) (s .limit) (s .signals) 1 0 (s .image + n) (s .blocks + 1) (s .skip) (s .skipped)
-
 -- ---- the image
 
 -- what follows the used bytes of an image, changed
@@ -46,7 +41,7 @@ abbrev pub usedItems : Encoder → (work : List ℕ) → List Item
 usedItems s w = itemsIn (s .signals) (take (s .work) w)
 
 abbrev pub dataStart : Encoder → ℕ
-dataStart s = 12 + 4 * s .signals + 8 * s .held
+dataStart s = frontSize (s .signals) (s .held)
 
 -- up to the pass over the signals' records
 abbrev pub cutOpened : Encoder → (size : ℕ) → (times work image : List ℕ) → List ℕ

@@ -1,11 +1,12 @@
 -- The loop of a cut over the signals' records, turn by turn: each record's part begins, and its index is 0 again.
 -- Assumes nothing.
-use Prim.Native.Nat.{ℕ, zero, suc, _+_, _*_, _≤_, _<_}
+use Prim.Native.Nat.{ℕ, zero, suc, _+_, _≤_, _<_}
 use mathlib.Core.List.{List, [], _∷_}
 use lib.ListN.{length, drop, getD}
 use Rattle.value.specs.Class.{classNumber}
 use Rattle.value.specs.declared.states.States.the-variants.{Two}
 use Rattle.signal.specs.declared.kind.SignalEncoding.the-variants.{Absent}
+use Rattle.image.specs.Block.{offsetPlace}
 use Rattle.recording.specs.declared.SignalRecord.{SignalRecord}
 use Rattle.recording.specs.Memory.{recordOf}
 use Rattle.block.specs.Passes.{begun, nextPart}
@@ -38,7 +39,7 @@ cutTurns u d (suc n) rs i = turned u d n (getD rs n (recordOf Absent 0 Two)) (cu
 -- what keeps a turn inside the image and its numbers inside 32 bits
 pub record TurnFits (used d o g : ℕ) (image : List ℕ) : Type 0 where
   pub lent : used ≤ length image
-  pub slot : 12 + 4 * g + 4 ≤ d
+  pub slot : offsetPlace g + 4 ≤ d
   pub room : d + nextPart o g (drop used image) ≤ length (drop used image)
   pub small : nextPart o g (drop used image) < 4294967296
 

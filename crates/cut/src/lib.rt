@@ -5,6 +5,9 @@
 use block::block::close_block;
 use block::block::open_block;
 use block::pass::begin_part;
+use image::layout::HEAD_BLOCKS;
+use image::layout::HEAD_TOTAL;
+use image::layout::data_start;
 use numbers::little_endian::put_u32;
 use recording::Encoder;
 use recording::SignalRecord;
@@ -14,8 +17,9 @@ ghost use mathlib.Core.Path.{_≡_};
 ghost use Prim.Native.Nat.{_+_, _≤_, _<_};
 ghost use lib.ListN.{length, drop};
 ghost use Rattle.recording.specs.Work.{itemsIn};
+ghost use Rattle.recording.specs.Step.{withCut};
 ghost use Rattle.block.specs.Given.{Divides, closed, Closes};
-ghost use Rattle.cut.specs.Cut.{sized, cutState, inTail, dataStart, cutOpened, cutClosed, nextTimes, CutOpens, CutCloses};
+ghost use Rattle.cut.specs.Cut.{sized, inTail, dataStart, cutOpened, cutClosed, nextTimes, CutOpens, CutCloses};
 ghost use Rattle.cut.specs.Turns.{placed, turned, TurnFits};
 
 // A refusal's number, 0 where the block can be cut, and the bytes that it takes.
@@ -27,7 +31,7 @@ pub struct CutSize {
 // The state after a cut of a block of size bytes.
 pub fn cut_state(state: Encoder, size: u32) -> Encoder
     requires { ⌜ (state .image + size < 4294967296) × (state .blocks + 1 < 4294967296) ⌝ }
-    ensures { λ r. ⌜ r ≡ cutState state size ⌝ }
+    ensures { λ r. ⌜ r ≡ withCut state size ⌝ }
 {
     let mut after = state;
     after.held = 1;
@@ -45,7 +49,7 @@ pub fn cut_size(state: Encoder, work: &[u8], image: usize) -> CutSize
 {
     match measure(&work[..state.work as usize], state.signals) {
         Measured::Data(n) => {
-            let fixed = 12 + 4 * state.signals as u64 + 8 * state.held as u64;
+            let fixed = data_start(state.signals as usize, state.held as usize) as u64;
             let free = (image - state.image as usize) as u64;
             if free < fixed {
                 return CutSize {
@@ -111,7 +115,7 @@ fn close_tail(state: Encoder, work: &[u8], image: &mut [u8])
     ensures { λ _. ⌜ now (image .exit) ≡ inTail (state .image) (closed (dataStart state) (state .signals) (itemsIn (state .signals) (now (work .entry)))) (now (image .entry)) ⌝ }
 {
     let used = state.image as usize;
-    let d = 12 + 4 * state.signals as usize + 8 * state.held as usize;
+    let d = data_start(state.signals as usize, state.held as usize);
     close_block(&mut image[used..], d, state.signals, work);
 }
 
@@ -121,7 +125,7 @@ pub fn close_cut(state: Encoder, size: u32, times: &mut [u64], work: &[u8], imag
     ensures { λ _. ⌜ (now (times .exit) ≡ nextTimes state (now (times .entry))) × (now (image .exit) ≡ cutClosed state size (now (work .entry)) (now (image .entry))) ⌝ }
 {
     close_tail(state, &work[..state.work as usize], image);
-    put_u32(image, 8, state.blocks + 1);
-    put_u32(image, 12, state.image + size);
+    put_u32(image, HEAD_BLOCKS, state.blocks + 1);
+    put_u32(image, HEAD_TOTAL, state.image + size);
     times[0] = times[state.held as usize - 1];
 }

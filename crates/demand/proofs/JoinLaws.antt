@@ -10,7 +10,6 @@ use lib.ListN.{length, take, drop}
 use lib.Dec.{eqb}
 use Rattle.lists.specs.Choice.{pick}
 use Rattle.lists.specs.Last.{lastOr}
-use Rattle.lists.specs.Same.{same}
 use Rattle.signal.specs.declared.kind.SignalEncoding.{SignalEncoding}
 use Rattle.image.specs.Image.{Image, image}
 use Rattle.history.specs.History.{Change, History}

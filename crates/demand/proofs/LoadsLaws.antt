@@ -20,6 +20,7 @@ use Rattle.image.specs.Image.{Image, image, imageBytes}
 use Rattle.codec.specs.Valid.{Rising, Valid}
 use Rattle.codec.specs.Parse.{parse}
 use Rattle.codec.proofs.Trip.{parse-of}
+use Rattle.recording.specs.declared.ProbeSkip.{ProbeSkip}
 use Rattle.recording.specs.Calls.{Call, finish, heard}
 use Rattle.recording.specs.Memory.{Memory, After, Tests, guarded, refused}
 use Rattle.recording.specs.Refusals.{openTests}
@@ -127,11 +128,11 @@ finished-told limit ks h b f = record {
   all = λ g l. all-from (length ks) g (f .model .blocks) noChunk [] l refl ∙ ap (view g) (f .held);
 }
 
--- ---- a finish leaves the skipped count
+-- ---- a finish leaves the skip and its count
 
 module _ (m : Memory) where
   abbrev Keeps : After → Type 0
-  Keeps e = e .memory .state .skipped ≡ m .state .skipped
+  Keeps e = e .memory .state .skips ≡ m .state .skips
 
   kept-picked : (b : Bool) (x y : After) → Keeps x → Keeps y → Keeps (pick b x y)
   kept-picked true x y p q = p
@@ -145,9 +146,9 @@ module _ (m : Memory) where
   kept-cut (noCut n) = refl
   kept-cut (cuts b) = refl
 
-  finish-count : Keeps (finishOf m)
+  finish-skips : Keeps (finishOf m)
   unfolding finishOf
-  finish-count =
+  finish-skips =
       kept-guarded (openTests m) (pick (eqb (m .state .held) 0) (closing m) (finishCut m (cutOf m)))
       (kept-picked (eqb (m .state .held) 0) (closing m) (finishCut m (cutOf m)) refl (kept-cut (cutOf m)))
 
@@ -169,9 +170,11 @@ module _ (limit signals : ℕ) (m : Memory) (calls : List Call) (size : ℕ) (r 
   pub recorded-answers : heard (ranFrom limit signals m calls .replies) ≡ historyOf limit signals m calls .answers
   recorded-answers = follows .answers
 
-  pub recorded-count : step (ranFrom limit signals m calls .last) finish .memory .state .skipped ≡ historyOf limit signals m calls .last .count
+  pub recorded-count : step (ranFrom limit signals m calls .last) finish .memory .state .skips .count ≡ historyOf limit signals m calls .last .skips .count
   unfolding step
-  recorded-count = let e = follows in finish-count (ranFrom limit signals m calls .last) ∙ e .stands .rep .count ∙ e .stands .same .count
+  recorded-count =
+      let e = follows in
+      ap (λ (k : ProbeSkip). k .count) (finish-skips (ranFrom limit signals m calls .last) ∙ e .stands .rep .skips ∙ e .stands .same .skips)
 
   -- nobody altered memory between the calls, so none is refused by 10
   pub recorded-never-ten : NeverTen (ranFrom limit signals m calls .replies)

@@ -112,7 +112,8 @@ module _ (limit signals : ℕ) (m : Memory) (calls : List Call) (fit : Fitting c
       let s : Memory = startOf limit signals m .memory in
       let held : List Call = callsIn s [] [] calls in
       told-loads ks (historyOf limit signals m held .last) (take (ranFrom limit signals m calls .last .state .image) (ranFrom limit signals m calls .last .image))
-      (finished-told limit ks (historyOf limit signals m held .last) (take (ranFrom limit signals m calls .last .state .image) (ranFrom limit signals m calls .last .image)) (used-finished limit ks s calls held (known-kinds (m .records) (start-taken limit signals m start .known)) (run-held limit ks s calls s noModel noHistory [] [] fit begun)))
+      (finished-told limit ks (historyOf limit signals m held .last) (take (ranFrom limit signals m calls .last .state .image) (ranFrom limit signals m calls .last .image))
+      (used-finished limit ks s calls held (known-kinds (m .records) (start-taken limit signals m start .known)) (run-held limit ks s calls s noModel noHistory [] [] fit begun)))
 
 pub power-loss : PowerLoss
 power-loss = record { used = λ limit signals m calls fit start. used-loads limit signals m calls fit start }

@@ -30,7 +30,9 @@ use Rattle.recording.specs.Calls as calls
 use Rattle.recording.specs.Work.{itemsOf, gather}
 use Rattle.recording.specs.Memory.{Memory, memory, recordOf}
 use Rattle.recording.specs.Refusals.{unknownKind, startTests, stateTests}
-use Rattle.recording.specs.Step.{encoder, partsFrom, cutOf, timeOf, changeOf, finishOf, startOf, step, run, kindsOf}
+use Rattle.recording.specs.State.{skipBegun, skipEnded, skipCounted}
+use Rattle.recording.specs.Step.{partsFrom, cutOf, timeOf, changeOf, finishOf, startOf, step, run, kindsOf}
+use Rattle.recording.specs.Runs.{staleState}
 use Rattle.history.specs.History.{Telling, noHistory, tell, tellAll, listOf, keptAfter, kept, keptOf, topOf, classOf}
 use Rattle.form.specs.Form.{repeat, each, getChain}
 use Rattle.codec.specs.Layout.{lengths, layoutForm}
@@ -47,7 +49,7 @@ use Rattle.demand.specs.Demand3.{RecordsFit, Lent, Recorded, ranFrom, le
 -- a vector of width 2, an event, a real, an absent signal; B 2
 abbrev mixed : Memory
 mixed =
-    memory (encoder true 9 9 9 9 9 9 true 9)
+    memory staleState
     (recordOf (BitVector 2) 9 Nine ∷ recordOf (BitVector 0) 7 Two ∷ recordOf Real 5 Nine ∷ recordOf Absent 0 Two ∷ [])
     (replicate 2 99) (replicate 64 99) (replicate 200 99)
 
@@ -83,7 +85,9 @@ mixedImage =
     ++ (0x02 ∷ 0x05 ∷ 0x06 ∷ 0x01 ∷ 0x06 ∷ 0x00 ∷ 0x01 ∷ 0x00 ∷ 0x01 ∷ [])))))))
 
 pub mixed-left : leftBy 2 4 mixed mixedCalls 153 ≡ mixedImage
-unfolding groups lebOf le unle symbolOf classOfAll allSymbols symbolsIn lastOr vcdBit textOf extended textSymbols numberOf digits packed unpacked rawSymbols decode changeBytes les dataOf offsetsFrom blockBytes headBytes wayOf itemsOf gather unknownKind startTests stateTests partsFrom cutOf timeOf changeOf finishOf startOf step run
+unfolding groups lebOf le unle symbolOf classOfAll allSymbols symbolsIn lastOr vcdBit textOf extended textSymbols numberOf digits packed unpacked rawSymbols decode changeBytes les
+    dataOf offsetsFrom blockBytes headBytes wayOf skipBegun skipEnded skipCounted itemsOf gather unknownKind startTests stateTests partsFrom cutOf timeOf changeOf finishOf startOf
+    step run
 mixed-left = refl
 
 -- the list meets demand 3's premises
@@ -117,10 +121,54 @@ two x y h k = (cons-bytes x (y ∷ []) h (cons-bytes y [] k no-bytes), omega ari
 
 mixed-fits : Fitting mixedCalls
 unfolding Fitting
-mixed-fits = ((omega arith, one 49 (omega arith)), (omega arith, ((omega arith, two 49 120 (omega arith) (omega arith)), ((omega arith, empty), (omega arith, ((omega arith, omega arith), ((omega arith, omega arith), (omega arith, ((omega arith, one 113 (omega arith)), (omega arith, ((omega arith, empty), (omega arith, ((omega arith, two 49 120 (omega arith) (omega arith)), ((omega arith, (omega arith, one 0x12 (omega arith))), ((omega arith, one 113 (omega arith)), ((omega arith, empty), ((omega arith, empty), ((omega arith, two 48 49 (omega arith) (omega arith)), tt))))))))))))))))))
+mixed-fits = (
+  (omega arith, one 49 (omega arith)),
+  (
+    omega arith,
+    (
+      (omega arith, two 49 120 (omega arith) (omega arith)),
+      (
+        (omega arith, empty),
+        (
+          omega arith,
+          (
+            (omega arith, omega arith),
+            (
+              (omega arith, omega arith),
+              (
+                omega arith,
+                (
+                  (omega arith, one 113 (omega arith)),
+                  (
+                    omega arith,
+                    (
+                      (omega arith, empty),
+                      (
+                        omega arith,
+                        (
+                          (omega arith, two 49 120 (omega arith) (omega arith)),
+                          (
+                            (omega arith, (omega arith, one 0x12 (omega arith))),
+                            ((omega arith, one 113 (omega arith)), ((omega arith, empty), ((omega arith, empty), ((omega arith, two 48 49 (omega arith) (omega arith)), tt)))),
+                          ),
+                        ),
+                      ),
+                    ),
+                  ),
+                ),
+              ),
+            ),
+          ),
+        ),
+      ),
+    ),
+  ),
+)
 
 pub mixed-recorded : Recorded 2 4 mixed mixedCalls 153
-unfolding groups lebOf le unle symbolOf classOfAll allSymbols symbolsIn lastOr vcdBit textOf extended textSymbols numberOf digits packed unpacked rawSymbols decode changeBytes les dataOf offsetsFrom blockBytes headBytes wayOf itemsOf gather unknownKind startTests stateTests partsFrom cutOf timeOf changeOf finishOf startOf step run
+unfolding groups lebOf le unle symbolOf classOfAll allSymbols symbolsIn lastOr vcdBit textOf extended textSymbols numberOf digits packed unpacked rawSymbols decode changeBytes les
+    dataOf offsetsFrom blockBytes headBytes wayOf skipBegun skipEnded skipCounted itemsOf gather unknownKind startTests stateTests partsFrom cutOf timeOf changeOf finishOf startOf
+    step run
 mixed-recorded = record { lent = mixed-lent; fitting = mixed-fits; start = refl; end = refl }
 
 abbrev mixedReplies : List Reply
@@ -128,15 +176,17 @@ mixedReplies =
     calls.refuse 3 ∷ say taken ∷ say recorded ∷ say recorded ∷ say taken ∷ say recorded ∷ say recorded ∷ say back ∷ say skipped ∷ say calls.same ∷ say skipped
     ∷ say taken ∷ say recorded ∷ say recorded ∷ calls.refuse 6 ∷ calls.refuse 4 ∷ say recorded ∷ say recorded ∷ []
 
-pub mixed-replies : (ranFrom 2 4 mixed mixedCalls .replies ≡ mixedReplies) × (step (ranFrom 2 4 mixed mixedCalls .last) finish .memory .state .skipped ≡ 2)
-unfolding groups lebOf le unle symbolOf classOfAll allSymbols symbolsIn lastOr vcdBit textOf extended textSymbols numberOf digits packed unpacked rawSymbols decode changeBytes les dataOf offsetsFrom blockBytes headBytes wayOf itemsOf gather unknownKind startTests stateTests partsFrom cutOf timeOf changeOf finishOf startOf step run
+pub mixed-replies : (ranFrom 2 4 mixed mixedCalls .replies ≡ mixedReplies) × (step (ranFrom 2 4 mixed mixedCalls .last) finish .memory .state .skips .count ≡ 2)
+unfolding groups lebOf le unle symbolOf classOfAll allSymbols symbolsIn lastOr vcdBit textOf extended textSymbols numberOf digits packed unpacked rawSymbols decode changeBytes les
+    dataOf offsetsFrom blockBytes headBytes wayOf skipBegun skipEnded skipCounted itemsOf gather unknownKind startTests stateTests partsFrom cutOf timeOf changeOf finishOf startOf
+    step run
 mixed-replies = (refl, refl)
 
 -- the history, fed which of these are refusals: the same answers and count; times, kept changes and classes
 abbrev mixedTold : Telling
 mixedTold = tellAll (kindsOf (mixed .records)) noHistory mixedCalls (refusals mixedReplies)
 
-pub mixed-told : (mixedTold .answers ≡ heard mixedReplies) × (mixedTold .last .count ≡ 2) × (mixedTold .last .times ≡ 1 ∷ 2 ∷ 3 ∷ [])
+pub mixed-told : (mixedTold .answers ≡ heard mixedReplies) × (mixedTold .last .skips .count ≡ 2) × (mixedTold .last .times ≡ 1 ∷ 2 ∷ 3 ∷ [])
 unfolding symbolOf classOfAll allSymbols symbolsIn lastOr vcdBit textOf extended textSymbols numberOf digits unpacked rawSymbols decode wayOf tell tellAll same listOf keptAfter kept topOf
 mixed-told = (refl, refl, refl)
 
@@ -154,5 +204,8 @@ pub mixed-loads : (openOf mixedImage ≡ true)
     × (loadOf mixedImage 1 (9 ∷ 9 ∷ []) [] ≡ loadAfter (loaded 2 0) (0 ∷ 2 ∷ []) [])
     × (loadOf mixedImage 2 (9 ∷ 9 ∷ []) (replicate 16 9) ≡ loadAfter (loaded 2 0) (1 ∷ 1 ∷ []) (0 ∷ 0 ∷ 0 ∷ 0 ∷ 0 ∷ 0 ∷ 0 ∷ 0x80 ∷ replicate 8 0))
     × (loadOf mixedImage 3 (9 ∷ []) (9 ∷ []) ≡ loadAfter (reader.refuse 4) (9 ∷ []) (9 ∷ []))
-unfolding les parse imageForm headForm blockForm layoutForm repeat each lengths unle readLeb stream getChain readChange valueAfter unpacked classOfAll allSymbols digits numberOf lastOr imageBytes blocksBytes streamedParts streamBytes headBytes blockBytes dataOf offsetsFrom le lebOf groups changeBytes packed risingFrom? rising? eachBelow? knownKinds? contentFits? entryFits? entriesFit? partFits? partsFit? starts? blockFits? blocksFit? valid? tableFrom tableIn moved repeatsLast pushed loadFrom entryBytes entriesBytes loadIn same
+unfolding les parse imageForm headForm blockForm layoutForm repeat each lengths unle readLeb stream getChain readChange valueAfter unpacked classOfAll allSymbols digits numberOf
+    lastOr imageBytes blocksBytes streamedParts streamBytes headBytes blockBytes dataOf offsetsFrom le lebOf groups changeBytes packed risingFrom? rising? eachBelow? knownKinds?
+    contentFits? entryFits? entriesFit? partFits? partsFit? starts? blockFits? blocksFit? valid? tableFrom tableIn moved repeatsLast pushed loadFrom entryBytes entriesBytes loadIn
+    same
 mixed-loads = (refl, refl, refl, refl, refl, refl)

@@ -35,7 +35,8 @@ use Rattle.recording.specs.declared.SignalRecord.{SignalRecord}
 use Rattle.recording.specs.Calls.{Call, Slice, Fitting}
 use Rattle.recording.specs.Memory.{Memory, memory, After, recordOf}
 use Rattle.recording.specs.Refusals.{unknownKind}
-use Rattle.recording.specs.Step.{encoder, kindsOf}
+use Rattle.recording.specs.State.{closedState}
+use Rattle.recording.specs.Step.{kindsOf}
 use Rattle.loaded.specs.Opener.{openOf}
 use Rattle.model.proofs.Rebuild.{imageCalls}
 use Rattle.follow.specs.Start.{Startable}
@@ -62,7 +63,7 @@ recordFor k = recordOf k 0 Two
 -- with room for B times, for n changes in the work buffer, and for `size` bytes of image
 abbrev roomFor : (limit n size : ℕ) → List SignalEncoding → Memory
 roomFor limit n size ks =
-    memory (encoder true 0 0 0 0 0 0 false 0) (map recordFor ks) (zeros limit) (zeros (n * mostBytes)) (zeros size)
+    memory closedState (map recordFor ks) (zeros limit) (zeros (n * mostBytes)) (zeros size)
 
 -- a known width has 32 bits
 width-small : (k : SignalEncoding) → knownKind k ≡ true → widthOf k < 2 ^ 32
@@ -196,13 +197,26 @@ tells-valid limit ks (b ∷ c ∷ bs) v =
     let x : Image = image limit ks (b ∷ []) in
     let y : Image = image limit ks (c ∷ bs) in
     let vx : Valid x = record { low = v .low; high = v .high; signals = v .signals; kinds = v .kinds; total = omega (arith, n .0, v .total); blocks = (tt, (v .blocks .1 .0, tt)) } in
-    let vy : Valid y = record { low = v .low; high = v .high; signals = v .signals; kinds = v .kinds; total = omega (arith, n .1, v .total); blocks = blocks-first limit ks (some (lastOr 0 (b .times))) (c ∷ bs) (v .blocks .1 .1) } in
+    let vy : Valid y = record {
+      low = v .low;
+      high = v .high;
+      signals = v .signals;
+      kinds = v .kinds;
+      total = omega (arith, n .1, v .total);
+      blocks = blocks-first limit ks
+          (some (lastOr 0 (b .times))) (c ∷ bs) (v .blocks .1 .1);
+    } in
     let s = tells-one limit ks (some b) vx in
     let t = tells-valid limit ks (c ∷ bs) vy in
     let bytes : List ℕ = imageBytes (image limit ks (b ∷ c ∷ bs)) in
     let p : joinOf (imageBytes x) (imageBytes y) bytes ≡ joinAfter (joined (length bytes)) (sets bytes 0 bytes) =
     ap₂ (λ (o q : Option Image). joinBy o q bytes) (parse-of x vx) (parse-of y vy)
-    ∙ rw (same-kinds limit ks (b ∷ []) (c ∷ bs), not-early limit ks (some (lastOr 0 (b .times))) (c ∷ bs) (v .blocks .1 .1), le-ltb imageLimit (length bytes) (v .total), le-ltb (length bytes) (length bytes) (omega arith)) refl in
+    ∙ rw (
+      same-kinds limit ks (b ∷ []) (c ∷ bs),
+      not-early limit ks (some (lastOr 0 (b .times))) (c ∷ bs) (v .blocks .1 .1),
+      le-ltb imageLimit (length bytes) (v .total),
+      le-ltb (length bytes) (length bytes) (omega arith),
+    ) refl in
     let e : take (length bytes) (joinOf (imageBytes x) (imageBytes y) bytes .out) ≡ bytes =
     ap (λ (r : JoinAfter). take (length bytes) (r .out)) p ∙ taken-back bytes bytes (length bytes) refl (omega arith) in (
       followed (s .0) (t .0),

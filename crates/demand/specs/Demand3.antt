@@ -35,7 +35,7 @@ pub record StateFits (s : Encoder) : Type 0 where
   pub work : s .work < 2 ^ 64
   pub image : s .image < 2 ^ 32
   pub blocks : s .blocks < 2 ^ 32
-  pub skipped : s .skipped < 2 ^ 32
+  pub skipped : s .skips .count < 2 ^ 32
 
 abbrev pub RecordFits : SignalRecord → Type 0
 RecordFits r = (widthOf (r .kind) < 2 ^ 32) × (r .index < 2 ^ 32)
@@ -106,7 +106,7 @@ pub record Demand3 : Type 0 where
   pub answers : (limit signals : ℕ) (m : Memory) (calls : List Call) (size : ℕ) → Recorded limit signals m calls size
       → heard (ranFrom limit signals m calls .replies) ≡ historyOf limit signals m calls .answers
   pub count : (limit signals : ℕ) (m : Memory) (calls : List Call) (size : ℕ) → Recorded limit signals m calls size
-      → step (ranFrom limit signals m calls .last) finish .memory .state .skipped ≡ historyOf limit signals m calls .last .count
+      → step (ranFrom limit signals m calls .last) finish .memory .state .skips .count ≡ historyOf limit signals m calls .last .skips .count
   -- the opener accepts exactly these: each by `opens` of what `loads` says, and no others
   pub accepted : (b : List ℕ) → Bytes b → openOf b ≡ true → (ks : List SignalEncoding) × (h : History) × Tells ks h b
 

@@ -12,7 +12,7 @@ use Rattle.recording.specs.Refusals.{unknownKind}
 use Rattle.recording.specs.Step.{rewound, fresh}
 use Rattle.head.specs.Kinds.{kindsPut}
 use Rattle.cut.specs.Turns.{firstBy, TurnsFit}
-use Rattle.plan.specs.declared.Plan.{Plan}
+use Rattle.plan_state.specs.declared.plan.Plan.{Plan}
 use Rattle.plan.specs.Carry.{openedBy, turnedBy, closedBy, timesBy, carried, Completes}
 use Rattle.plan.specs.Begin.{beginOf, beginIn, startCarried}
 

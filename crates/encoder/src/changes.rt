@@ -1,19 +1,18 @@
 // The change calls: a VCD, a raw and a real value.
 use change::change_found;
-use change::notation::Value;
-use plan::Outcome;
+use change_notation::Value;
 use recording::Encoder;
+use recording::Lengths;
+use recording::Outcome;
 use recording::SignalRecord;
-use recording::SignalRef;
 use records::find_record;
 use records::put_record;
-use refusals::Lengths;
+use signal::SignalRef;
 ghost use mathlib.Core.Path.{_≡_};
 ghost use Rattle.signal.specs.Content.{vcd, raw, real};
-ghost use Rattle.recording.specs.Calls.{replyOf};
-ghost use Rattle.recording.specs.Memory.{memory, after};
+ghost use Rattle.recording.specs.Memory.{memory, left};
 ghost use Rattle.recording.specs.Step.{changeOf};
-ghost use Rattle.change.specs.Found.{givenOf};
+ghost use Rattle.change_notation.specs.Notation.{givenOf};
 
 // A change in any notation: the signal's record is read, decided on, and stored.
 pub fn value_change<'r, 't, 'w, 'i, 'b>(
@@ -26,7 +25,7 @@ pub fn value_change<'r, 't, 'w, 'i, 'b>(
     value: Value,
     bytes: &'b [u8],
 ) -> Outcome
-    ensures { λ r. ⌜ after (replyOf (r .answer)) (memory (r .state) (now (records .exit)) (now (times .entry)) (now (work .exit)) (now (image .entry)))
+    ensures { λ r. ⌜ left r (now (records .exit)) (now (times .entry)) (now (work .exit)) (now (image .entry))
         ≡ changeOf (memory state (now (records .entry)) (now (times .entry)) (now (work .entry)) (now (image .entry))) (signal .0) (givenOf value (now (bytes .entry))) ⌝ }
 {
     let lent = Lengths {
@@ -53,7 +52,7 @@ pub fn vcd_value_change<'r, 't, 'w, 'i, 'b>(
     signal: SignalRef,
     value: &'b [u8],
 ) -> Outcome
-    ensures { λ r. ⌜ after (replyOf (r .answer)) (memory (r .state) (now (records .exit)) (now (times .entry)) (now (work .exit)) (now (image .entry)))
+    ensures { λ r. ⌜ left r (now (records .exit)) (now (times .entry)) (now (work .exit)) (now (image .entry))
         ≡ changeOf (memory state (now (records .entry)) (now (times .entry)) (now (work .entry)) (now (image .entry))) (signal .0) (vcd (now (value .entry))) ⌝ }
 {
     value_change(
@@ -79,7 +78,7 @@ pub fn raw_claim_change<'r, 't, 'w, 'i, 'b>(
     claim: u32,
     value: &'b [u8],
 ) -> Outcome
-    ensures { λ r. ⌜ after (replyOf (r .answer)) (memory (r .state) (now (records .exit)) (now (times .entry)) (now (work .exit)) (now (image .entry)))
+    ensures { λ r. ⌜ left r (now (records .exit)) (now (times .entry)) (now (work .exit)) (now (image .entry))
         ≡ changeOf (memory state (now (records .entry)) (now (times .entry)) (now (work .entry)) (now (image .entry))) (signal .0) (raw claim (now (value .entry))) ⌝ }
 {
     value_change(
@@ -104,7 +103,7 @@ pub fn real_change<'r, 't, 'w, 'i>(
     signal: SignalRef,
     bits: u64,
 ) -> Outcome
-    ensures { λ r. ⌜ after (replyOf (r .answer)) (memory (r .state) (now (records .exit)) (now (times .entry)) (now (work .exit)) (now (image .entry)))
+    ensures { λ r. ⌜ left r (now (records .exit)) (now (times .entry)) (now (work .exit)) (now (image .entry))
         ≡ changeOf (memory state (now (records .entry)) (now (times .entry)) (now (work .entry)) (now (image .entry))) (signal .0) (real bits) ⌝ }
 {
     value_change(

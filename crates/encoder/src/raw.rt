@@ -1,18 +1,17 @@
 // A raw value of a signal. Document 01, 'Symbol and value'.
 use crate::changes::value_change;
-use change::notation::Value;
-use plan::Outcome;
+use change_notation::raw_notation;
 use recording::Encoder;
+use recording::Outcome;
 use recording::SignalRecord;
-use recording::SignalRef;
 use records::find_record;
+use signal::SignalRef;
 use value::states::States;
 ghost use mathlib.Core.Path.{_≡_};
 ghost use Rattle.value.specs.Class.{classNumber};
 ghost use Rattle.signal.specs.Kind.{widthOf};
 ghost use Rattle.signal.specs.Content.{raw};
-ghost use Rattle.recording.specs.Calls.{replyOf};
-ghost use Rattle.recording.specs.Memory.{memory, after};
+ghost use Rattle.recording.specs.Memory.{memory, left};
 ghost use Rattle.recording.specs.Step.{changeOf};
 
 // The class that it claims, its signal's width, and the bytes that it borrows.
@@ -20,13 +19,6 @@ pub struct RawValue<'b> {
     pub claim: States,
     pub width: u32,
     pub bytes: &'b [u8],
-}
-
-// The notation of a raw value that claims a class.
-fn raw_notation(claim: States) -> Value
-    ensures { λ r. ⌜ r ≡ Value.Raw (classNumber claim) ⌝ }
-{
-    Value::Raw(claim.number() as u32)
 }
 
 // A raw value of a signal. The width is not looked at: it is the signal's, which its record has.
@@ -39,7 +31,7 @@ pub fn raw_value_change<'r, 't, 'w, 'i, 'b>(
     signal: SignalRef,
     value: RawValue<'b>,
 ) -> Outcome
-    ensures { λ r. ⌜ after (replyOf (r .answer)) (memory (r .state) (now (records .exit)) (now (times .entry)) (now (work .exit)) (now (image .entry)))
+    ensures { λ r. ⌜ left r (now (records .exit)) (now (times .entry)) (now (work .exit)) (now (image .entry))
         ≡ changeOf (memory state (now (records .entry)) (now (times .entry)) (now (work .entry)) (now (image .entry))) (signal .0) (raw (classNumber (value .entry .claim)) (now (value .entry .bytes))) ⌝ }
 {
     let notation = raw_notation(value.claim);
@@ -74,7 +66,7 @@ pub fn raw_class_change<'r, 't, 'w, 'i, 'b>(
     class: States,
     bytes: &'b [u8],
 ) -> Outcome
-    ensures { λ r. ⌜ after (replyOf (r .answer)) (memory (r .state) (now (records .exit)) (now (times .entry)) (now (work .exit)) (now (image .entry)))
+    ensures { λ r. ⌜ left r (now (records .exit)) (now (times .entry)) (now (work .exit)) (now (image .entry))
         ≡ changeOf (memory state (now (records .entry)) (now (times .entry)) (now (work .entry)) (now (image .entry))) (signal .0) (raw (classNumber class) (now (bytes .entry))) ⌝ }
 {
     let kept = find_record(&*records, signal);

@@ -1,14 +1,13 @@
 // The start of a recording. Document 01, 'Recording' and 'Turned back' (1).
 use crate::turns::start_records;
-use plan::Outcome;
 use plan::start::begin;
 use recording::Encoder;
+use recording::Outcome;
 use recording::SignalRecord;
 use records::has_unknown_kind;
 ghost use mathlib.Core.Path.{_≡_};
 ghost use mathlib.Core.List.{[]};
-ghost use Rattle.recording.specs.Calls.{replyOf};
-ghost use Rattle.recording.specs.Memory.{memory, after};
+ghost use Rattle.recording.specs.Memory.{memory, left};
 ghost use Rattle.recording.specs.Step.{startOf};
 
 // Starts a recording of S signals with at most B times a block: writes the image's head, and sets each record's index and class to 0.
@@ -21,7 +20,7 @@ pub fn start<'r, 't, 'i>(
     times: &'t [u64],
     image: &'i mut [u8],
 ) -> Outcome
-    ensures { λ r. ⌜ after (replyOf (r .answer)) (memory (r .state) (now (records .exit)) (now (times .entry)) [] (now (image .exit)))
+    ensures { λ r. ⌜ left r (now (records .exit)) (now (times .entry)) [] (now (image .exit))
         ≡ startOf limit signals (memory state (now (records .entry)) (now (times .entry)) [] (now (image .entry))) ⌝ }
 {
     let unknown = has_unknown_kind(&*records);

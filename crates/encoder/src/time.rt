@@ -1,13 +1,12 @@
 // A time.
 use crate::turns::cut_records;
-use plan::Outcome;
 use plan::carry::complete;
 use plan::time::prepare_time;
 use recording::Encoder;
+use recording::Outcome;
 use recording::SignalRecord;
 ghost use mathlib.Core.Path.{_≡_};
-ghost use Rattle.recording.specs.Calls.{replyOf};
-ghost use Rattle.recording.specs.Memory.{memory, after};
+ghost use Rattle.recording.specs.Memory.{memory, left};
 ghost use Rattle.recording.specs.Step.{timeOf};
 
 // A time: a larger one than the last is taken, after a cut if the table is full; an equal one changes nothing; a smaller one starts a skip.
@@ -19,7 +18,7 @@ pub fn time_change<'r, 't, 'w, 'i>(
     image: &'i mut [u8],
     time: u64,
 ) -> Outcome
-    ensures { λ r. ⌜ after (replyOf (r .answer)) (memory (r .state) (now (records .exit)) (now (times .exit)) (now (work .entry)) (now (image .exit)))
+    ensures { λ r. ⌜ left r (now (records .exit)) (now (times .exit)) (now (work .entry)) (now (image .exit))
         ≡ timeOf (memory state (now (records .entry)) (now (times .entry)) (now (work .entry)) (now (image .entry))) time ⌝ }
 {
     let n = records.len();

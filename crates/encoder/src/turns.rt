@@ -2,8 +2,8 @@
 use cut::begin_record;
 use head::put_kind;
 use recording::SignalRecord;
-use storage::fresh;
-use storage::rewound;
+use recording::fresh;
+use recording::rewound;
 ghost use mathlib.Core.Path.{_≡_};
 ghost use Rattle.recording.specs.Step as step;
 ghost use Rattle.head.specs.Kinds.{kindsPut, KindsFit};

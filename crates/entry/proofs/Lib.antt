@@ -1,10 +1,5 @@
 pub mod LengthLaws
-pub mod PartLaws
 pub mod ReadThere
-pub mod PutLaws
-pub mod SameLaws
-pub mod KeptLaws
-pub mod AnswerLaws
-pub mod AnswerTrip
+pub mod WideLaws
 pub mod EntriesLaws
 pub mod Cases

@@ -115,7 +115,8 @@ module _ (k : SignalEncoding) (s : List ℕ) (v : ChangeValue) (n p d : ℕ) (y 
       let w : WrittenAs k (drop p s) x r = written-read k (drop p s) x r (drop-bytes p s y) e in
       let b : List ℕ = changeBytes k (x .d) (x .content) in
       let form : s ≡ take p s ++ (b ++ r) = sym (take-append-drop p s) ∙ ap (λ (l : List ℕ). take p s ++ l) (w .form) in
-      let content : contentRead k s v n ≡ x .content = subst (λ (u : ChangeValue). contentRead k s u n ≡ x .content) g (content-there k (x .d) (x .content) (take p s) r s n (w .fits .fits) form (sym h)) in
+      let content : contentRead k s v n ≡ x .content = subst (λ (u : ChangeValue). contentRead k s u n ≡ x .content) g
+      (content-there k (x .d) (x .content) (take p s) r s n (w .fits .fits) form (sym h)) in
       let rest : drop n s ≡ r = part-rest (take p s) b r s n form (sym h) in
       record {
         found = rw (content, ← f, rest) e;
@@ -139,3 +140,8 @@ module _ (k : SignalEncoding) (s : List ℕ) (v : ChangeValue) (n p d : ℕ) (y 
 
 pub reads-there : (k : SignalEncoding) (s : List ℕ) (v : ChangeValue) (n : ℕ) → Bytes s → (r : Reads k s v n) → ReadThere k s v n (r .0) (r .1)
 reads-there k s v n y r = read-there k s v n (r .0) (r .1) y (r .2)
+
+-- of a wider vector, its packed bytes
+pub packed-read : (k : SignalEncoding) (w t : ℕ) (s : List ℕ) (v : ChangeValue) (n : ℕ) → Bytes s → Reads k s v n → k ≡ BitVector w → (w ≡ 0 → ⊥) → (w ≡ 1 → ⊥)
+    → t ≡ classNumber (statesIn v) → PackedThere w t n s
+packed-read k w t s v n y r e z one f = rw f (reads-there k s v n y r .packed w e (omega arith))

@@ -1,4 +1,2 @@
 pub mod Length
 pub mod Read
-pub mod Answer
-pub mod Kept

@@ -1,5 +1,5 @@
 // How long an entry is: every entry of a signal is as long.
-use packed::bytes_required;
+use packed_symbols::bytes_required;
 use signal::kind::SignalEncoding;
 use value::states::States;
 ghost use mathlib.Core.Path.{_≡_};

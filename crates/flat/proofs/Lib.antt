@@ -1,4 +1,2 @@
-pub mod ChangeLaws
-pub mod RecordLaws
 pub mod SameLaws
 pub mod StartLaws

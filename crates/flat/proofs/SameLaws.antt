@@ -1,5 +1,5 @@
--- The recorder over a slice of records (crate encoder) and over their numbers (this crate) give the same answers. Each call's contract in
--- either crate equates what the call leaves with one and the same definition (`startOf`, `timeOf`, `changeOf`, `finishOf`) of what it found:
+-- The recorder over a slice of records (crate encoder) and over their numbers (this crate and flat_changes) give the same answers. Each call's contract in
+-- each equates what the call leaves with one and the same definition (`startOf`, `timeOf`, `changeOf`, `finishOf`) of what it found:
 -- x below. So a call on records and the same call on their numbers answer the same, and leave the same state, the same buffers and the same
 -- records; no two lists of numbers are the same records (storage: records-same).
 -- Assumes nothing.

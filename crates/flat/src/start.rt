@@ -1,13 +1,12 @@
 // The start of a recording. Document 01, 'Recording' and 'Turned back' (1).
-use crate::records::start_records;
-use plan::Outcome;
+use flat_records::start_records;
 use plan::start::begin;
 use recording::Encoder;
+use recording::Outcome;
 use storage::has_unknown_kind;
 ghost use mathlib.Core.Path.{_≡_};
 ghost use mathlib.Core.List.{[]};
-ghost use Rattle.recording.specs.Calls.{replyOf};
-ghost use Rattle.recording.specs.Memory.{memory, after};
+ghost use Rattle.recording.specs.Memory.{memory, left};
 ghost use Rattle.recording.specs.Step.{startOf};
 ghost use Rattle.storage.specs.Storage.{recordsOf};
 
@@ -21,7 +20,7 @@ pub fn start(
     times: &[u64],
     image: &mut [u8],
 ) -> Outcome
-    ensures { λ r. ⌜ after (replyOf (r .answer)) (memory (r .state) (recordsOf (now (records .exit))) (now (times .entry)) [] (now (image .exit)))
+    ensures { λ r. ⌜ left r (recordsOf (now (records .exit))) (now (times .entry)) [] (now (image .exit))
         ≡ startOf limit signals (memory state (recordsOf (now (records .entry))) (now (times .entry)) [] (now (image .entry))) ⌝ }
 {
     let unknown = has_unknown_kind(&*records);

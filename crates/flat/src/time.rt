@@ -1,12 +1,12 @@
 // A time.
-use crate::records::cut_records;
-use plan::Outcome;
+use flat_records::cut_records;
 use plan::carry::complete;
 use plan::time::prepare_time;
+use plan_state::plan::Plan;
 use recording::Encoder;
+use recording::Outcome;
 ghost use mathlib.Core.Path.{_≡_};
-ghost use Rattle.recording.specs.Calls.{replyOf};
-ghost use Rattle.recording.specs.Memory.{memory, after};
+ghost use Rattle.recording.specs.Memory.{memory, left};
 ghost use Rattle.recording.specs.Step.{timeOf};
 ghost use Rattle.storage.specs.Storage.{recordsOf};
 
@@ -19,11 +19,11 @@ pub fn time_change(
     image: &mut [u8],
     time: u64,
 ) -> Outcome
-    ensures { λ r. ⌜ after (replyOf (r .answer)) (memory (r .state) (recordsOf (now (records .exit))) (now (times .exit)) (now (work .entry)) (now (image .exit)))
+    ensures { λ r. ⌜ left r (recordsOf (now (records .exit))) (now (times .exit)) (now (work .entry)) (now (image .exit))
         ≡ timeOf (memory state (recordsOf (now (records .entry))) (now (times .entry)) (now (work .entry)) (now (image .entry))) time ⌝ }
 {
     let n = records.len();
-    let plan = prepare_time(state, n, &*times, work, image, time);
+    let plan: Plan = prepare_time(state, n, &*times, work, image, time);
     cut_records(records, plan.turns, plan.used, plan.start, image);
     complete(plan, times, work, image)
 }

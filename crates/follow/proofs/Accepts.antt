@@ -17,6 +17,7 @@ use Rattle.signal.specs.Kind.{absent}
 use Rattle.signal.specs.Content.{Content, Given, vcd, raw, real, accept, decode}
 use Rattle.signal.proofs.DecodeLaws.{accepted}
 use Rattle.recording.specs.Calls.{Call, time, change, finish, ValueFits, CallFits, Fitting, recorded, taken, say, total, isRefusal, Way, above, equal, below, wayOf}
+use Rattle.recording.specs.declared.ProbeSkip.{ProbeSkip}
 use Rattle.recording.specs.Memory.{Memory, After, after, recordAt, guarded, refused}
 use Rattle.recording.specs.Refusals.{openTests}
 use Rattle.recording.specs.Step.{Cut, cuts, cutOf, timeCut, timeBy, timeOf, recordedIn, changeBy, changeOf, closing, finishCut, finishOf, step, run}
@@ -90,7 +91,7 @@ module _ (limit : ℕ) (ks : List SignalEncoding) where
           (record { live = refl; image = refl; work = refl; used = omega arith })
 
   change-is : (m : Memory) (p : Model) (g c : ℕ) (v : Given) (a : Content) → Rep limit ks m p → p .closed ≡ false
-      → p .skip ≡ false → 0 < length (p .now .times) → g < length ks → absent (getD ks g Absent) ≡ false → decode (getD ks g Absent) v ≡ accept a c
+      → p .skips .on ≡ false → 0 < length (p .now .times) → g < length ks → absent (getD ks g Absent) ≡ false → decode (getD ks g Absent) v ≡ accept a c
       → m .state .work + (8 + length (bytesIn limit ks m g a)) ≤ length (m .work)
       → changeOf m g v ≡ after (say recorded) (recordedIn m g (bytesIn limit ks m g a) c)
   unfolding changeOf
@@ -100,7 +101,7 @@ module _ (limit : ℕ) (ks : List SignalEncoding) where
       let b : List ℕ = bytesIn limit ks m g a in
       opened-is m p _ r up
       ∙ pick-false (eqb (m .state .held) 0) _ _ (ne-eqb (m .state .held) 0 t0)
-      ∙ pick-false (m .state .skip) _ _ (r .skip ∙ s)
+      ∙ pick-false (m .state .skips .on) _ _ (ap (λ (k : ProbeSkip). k .on) (r .skips) ∙ s)
       ∙ pick-false (leb (m .state .signals) g || absent (recordAt m g .kind)) _ _
       (or-false (leb (m .state .signals) g) (absent (recordAt m g .kind)) (lt-leb (m .state .signals) g (omega (arith, r .signals))) (ap absent (e .kind) ∙ x))
       ∙ ap (changeBy m g) (ap (λ (n : SignalEncoding). decode n v) (e .kind) ∙ d)

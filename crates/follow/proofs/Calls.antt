@@ -15,11 +15,14 @@ use Rattle.signal.specs.declared.kind.SignalEncoding.the-variants.{Absent}
 use Rattle.signal.specs.Kind.{absent}
 use Rattle.signal.specs.Content.{Given, Decoded, refuse, accept, decode}
 use Rattle.signal.proofs.DecodeLaws.{accepted}
-use Rattle.recording.specs.Calls.{Call, time, change, finish, ValueFits, CallFits, recorded, say, total, isRefusal, heardOf, Way, above, equal, below, wayOf, counted}
+use Rattle.recording.specs.Calls.{Call, time, change, finish, ValueFits, CallFits, recorded, say, total, isRefusal, heardOf, Way, above, equal, below, wayOf}
+use Rattle.recording.specs.declared.ProbeSkip.{ProbeSkip}
 use Rattle.recording.specs.Calls as calls
 use Rattle.recording.specs.Memory.{Memory, After, after, recordAt, guarded, refused}
 use Rattle.recording.specs.Refusals.{openTests, signalTests}
-use Rattle.recording.specs.Step.{withState, Cut, noCut, cuts, cutOf, cutIn, timeCut, timeBy, timeOf, skipping, skippedOne, recordedIn, changeBy, changeOf, closedNow, closing, finishCut, finishOf, step}
+use Rattle.recording.specs.State.{skipBegun, skipCounted, withSkips}
+use Rattle.recording.specs.Step.{withState, Cut, noCut, cuts, cutOf, cutIn, timeCut, timeBy, timeOf}
+use Rattle.recording.specs.Step.{skipping, skippedOne, recordedIn, changeBy, changeOf, closedNow, closing, finishCut, finishOf, step}
 use Rattle.recording.specs.Step as step
 use Rattle.codec.proofs.ImageFits.{top-small}
 use Rattle.model.specs.Model.{Model, model, cut, timed, modelTime, modelChange, close, noTime, modelStep}
@@ -100,8 +103,10 @@ module _ (limit : ℕ) (ks : List SignalEncoding) where
       said-time p t above (step.timed (cutIn m (openBytes ks p)) t) e up
       (subst (λ (x : Bool). Rep limit ks (step.timed (cutIn m (openBytes ks p)) t) (timed (pick x (cut p) p) t)) (sym full) z)
 
-  rep-skip : (m : Memory) (p : Model) → Rep limit ks m p → Rep limit ks (withState m (skipping (m .state))) (model (p .blocks) (p .now) true (p .count) (p .closed))
-  rep-skip m p r = record {
+  -- another skip
+  rep-skips : (m : Memory) (p : Model) (k l : ProbeSkip) → k ≡ l → Rep limit ks m p
+      → Rep limit ks (withState m (withSkips (m .state) k)) (model (p .blocks) (p .now) l (p .closed))
+  rep-skips m p k l e r = record {
     low = r .low;
     high = r .high;
     few = r .few;
@@ -110,8 +115,7 @@ module _ (limit : ℕ) (ks : List SignalEncoding) where
     bound = r .bound;
     signals = r .signals;
     closed = r .closed;
-    skip = refl;
-    count = r .count;
+    skips = e;
     times = r .times;
     recs = r .recs;
     work = r .work;
@@ -124,7 +128,7 @@ module _ (limit : ℕ) (ks : List SignalEncoding) where
       → Good limit ks p (time t) (timeBy m t way)
   unfolding modelTime
   time-good m p t equal e up r = said-time p t equal m e up r
-  time-good m p t below e up r = said-time p t below (withState m (skipping (m .state))) e up (rep-skip m p r)
+  time-good m p t below e up r = said-time p t below (withState m (skipping (m .state))) e up (rep-skips m p _ _ (ap skipBegun (r .skips)) r)
   time-good m p t above e up r =
       on-pick p (time t) (eqb (m .state .held) (m .state .limit)) _ _
       (λ q. subst (λ (x : Cut). Good limit ks p (time t) (timeCut m t x)) (sym (cut-is limit ks m p r))
@@ -138,7 +142,7 @@ module _ (limit : ℕ) (ks : List SignalEncoding) where
 
   -- ---- change
 
-  said-change : (p : Model) (g : ℕ) (v : Given) (b : Bool) (d : Decoded) (m' : Memory) → p .skip ≡ b → decode (getD ks g Absent) v ≡ d
+  said-change : (p : Model) (g : ℕ) (v : Given) (b : Bool) (d : Decoded) (m' : Memory) → p .skips .on ≡ b → decode (getD ks g Absent) v ≡ d
       → p .closed ≡ false → 0 < length (p .now .times) → Rep limit ks m' (modelChange p g b d) → Good limit ks p (change g v) (after (say (changeAnswer b d)) m')
   unfolding modelStep modelAnswer
   said-change p g v b d m' e q up k r = record {
@@ -151,29 +155,8 @@ module _ (limit : ℕ) (ks : List SignalEncoding) where
     sum = λ n z. let n : _≡_ {A = ℕ} 0 1 = cc in absurd (omega arith);
   }
 
-  rep-counted : (m : Memory) (p : Model) → m .state .skip ≡ true → Rep limit ks m p
-      → Rep limit ks (withState m (skippedOne (m .state))) (model (p .blocks) (p .now) true (counted (p .count)) (p .closed))
-  rep-counted m p s r = record {
-    low = r .low;
-    high = r .high;
-    few = r .few;
-    known = r .known;
-    small = r .small;
-    bound = r .bound;
-    signals = r .signals;
-    closed = r .closed;
-    skip = s;
-    count = ap counted (r .count);
-    times = r .times;
-    recs = r .recs;
-    work = r .work;
-    image = r .image;
-    inside = r .inside;
-    start = r .start;
-  }
-
   read-good : (m : Memory) (p : Model) (g : ℕ) (v : Given) (d : Decoded) → decode (getD ks g Absent) v ≡ d → ValueFits v → p .closed ≡ false
-      → absent (getD ks g Absent) ≡ false → g < length ks → 0 < m .state .held → m .state .skip ≡ false → Rep limit ks m p
+      → absent (getD ks g Absent) ≡ false → g < length ks → 0 < m .state .held → m .state .skips .on ≡ false → Rep limit ks m p
       → Good limit ks p (change g v) (changeBy m g d)
   read-good m p g v (refuse n) q fit up x h k s r = refuses m p (change g v) n (decode-ten (getD ks g Absent) v n q) r
   read-good m p g v (accept a c) q fit up x h k s r =
@@ -182,12 +165,12 @@ module _ (limit : ℕ) (ks : List SignalEncoding) where
       let b : List ℕ = bytesIn limit ks m g a in
       subst (Good limit ks p (change g v)) (sym (room-is limit ks m p g (length b) (refused m) (after (say recorded) (recordedIn m g b c)) h r))
       (on-pick p (change g v) (ltb (length (m .work)) (m .state .work + (8 + length b))) _ _ (λ z. refuses m p (change g v) 7 (λ t. omega arith) r)
-      (λ z. said-change p g v false (accept a c) (recordedIn m g b c) (sym (r .skip) ∙ s) q up (omega (arith, r .times .long))
-      (rep-recorded limit ks m p g c a h x k (y .fits) two (ltb-false (length (m .work)) (m .state .work + (8 + length b)) z) s r)))
+      (λ z. said-change p g v false (accept a c) (recordedIn m g b c) (sym (ap (λ (k : ProbeSkip). k .on) (r .skips)) ∙ s) q up (omega (arith, r .times .long))
+      (rep-recorded limit ks m p g c a h x k (y .fits) two (ltb-false (length (m .work)) (m .state .work + (8 + length b)) z) r)))
 
   change-good : (m : Memory) (p : Model) (g : ℕ) (v : Given) → ValueFits v → p .closed ≡ false → Rep limit ks m p
       → Good limit ks p (change g v)
-      (pick (eqb (m .state .held) 0) (refused m 3) (pick (m .state .skip) (after (say calls.skipped) (withState m (skippedOne (m .state))))
+      (pick (eqb (m .state .held) 0) (refused m 3) (pick (m .state .skips .on) (after (say calls.skipped) (withState m (skippedOne (m .state))))
       (guarded (signalTests (m .state) (recordAt m g) g) (refused m) (changeBy m g (decode (recordAt m g .kind) v)))))
   unfolding modelChange
   change-good m p g v fit up r =
@@ -195,8 +178,9 @@ module _ (limit : ℕ) (ks : List SignalEncoding) where
       (λ q0.
       let n = eqb-false (m .state .held) 0 q0 in
       let k : 0 < m .state .held = omega (arith, n) in
-      on-pick p (change g v) (m .state .skip) _ _
-      (λ s. said-change p g v true (decode (getD ks g Absent) v) (withState m (skippedOne (m .state))) (sym (r .skip) ∙ s) refl up (omega (arith, r .times .long)) (rep-counted m p s r))
+      on-pick p (change g v) (m .state .skips .on) _ _
+      (λ s. said-change p g v true (decode (getD ks g Absent) v) (withState m (skippedOne (m .state))) (sym (ap (λ (k : ProbeSkip). k .on) (r .skips)) ∙ s) refl up (omega (arith, r .times .long))
+      (rep-skips m p _ _ (ap skipCounted (r .skips)) r))
       (λ s. on-pick p (change g v) (leb (m .state .signals) g || absent (recordAt m g .kind)) _ _ (λ q. refuses m p (change g v) 4 (λ t. omega arith) r)
       (λ q1.
       let o = none-holds (leb (m .state .signals) g) (absent (recordAt m g .kind)) q1 in
@@ -229,8 +213,7 @@ module _ (limit : ℕ) (ks : List SignalEncoding) where
     bound = r .bound;
     signals = r .signals;
     closed = refl;
-    skip = r .skip;
-    count = r .count;
+    skips = r .skips;
     times = r .times;
     recs = r .recs;
     work = r .work;

@@ -53,7 +53,7 @@ pub step-grown : (ks : List SignalEncoding) (limit : ℕ) (p : Model) (c : Call)
 unfolding modelStep
 step-grown ks limit p c true = kept refl
 step-grown ks limit p (time t) false = grown-time limit p t (wayOf (p .now .times) t)
-step-grown ks limit p (change g v) false = grown-change p g (p .skip) (decode (getD ks g Absent) v)
+step-grown ks limit p (change g v) false = grown-change p g (p .skips .on) (decode (getD ks g Absent) v)
 step-grown ks limit p finish false = grown-last p (noTime (p .now .times))
 
 record Longer (bs cs : List Chunk) : Type 0 where

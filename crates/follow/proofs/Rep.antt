@@ -21,6 +21,7 @@ use Rattle.image.specs.Head.{imageLimit}
 use Rattle.codec.specs.Ends.{lastIndex}
 use Rattle.recording.specs.Work.{itemsOf}
 use Rattle.recording.specs.Memory.{Memory, recordAt}
+use Rattle.recording.specs.State.{skipEnded}
 use Rattle.recording.specs.Step.{noCut, cuts, cutBlock, cutItems, cutOf, cutIn, recordedIn, partsFrom}
 use Rattle.recording.specs.Step as step
 use Rattle.history.specs.History.{listOf}
@@ -44,8 +45,7 @@ pub record Rep (limit : ℕ) (ks : List SignalEncoding) (m : Memory) (p : Model)
   pub bound : m .state .limit ≡ limit
   pub signals : m .state .signals ≡ length ks
   pub closed : m .state .closed ≡ p .closed
-  pub skip : m .state .skip ≡ p .skip
-  pub count : m .state .skipped ≡ p .count
+  pub skips : m .state .skips ≡ p .skips
   pub times : TimesRep limit (m .state .held) (m .times) (p .now .times)
   pub recs : RecsRep ks (m .records) (seenOf (p .blocks)) (p .now .changes)
   pub work : WorkRep ks (m .state .work) (m .work) (p .now .changes)
@@ -85,8 +85,7 @@ module _ (limit : ℕ) (ks : List SignalEncoding) where
     bound = r .bound;
     signals = r .signals;
     closed = r .closed;
-    skip = r .skip;
-    count = r .count;
+    skips = r .skips;
     times = times-cut limit (m .state .held) (m .times) (p .now .times) h (r .times);
     recs = rw (seen-snoc (p .blocks) (p .now)) (recs-cut ks (m .records) (seenOf (p .blocks)) (p .now .changes) (r .recs));
     work = work-cut ks (m .work);
@@ -105,8 +104,7 @@ module _ (limit : ℕ) (ks : List SignalEncoding) where
     bound = r .bound;
     signals = r .signals;
     closed = r .closed;
-    skip = refl;
-    count = r .count;
+    skips = ap skipEnded (r .skips);
     times = times-more limit (m .state .held) t (m .times) (p .now .times) h (r .times);
     recs = r .recs;
     work = r .work;
@@ -134,10 +132,10 @@ module _ (limit : ℕ) (ks : List SignalEncoding) where
       rw (bytes-are m p g a h r) (change-few (getD ks g Absent) (length (p .now .times) - 1 - lastIndex 0 (listOf g (p .now .changes))) a (r .known g h) f)
 
   pub rep-recorded : (m : Memory) (p : Model) (g c : ℕ) (a : Content) → g < length ks → absent (getD ks g Absent) ≡ false → 0 < m .state .held
-      → ContentFits (getD ks g Absent) a → c ≤ 2 → m .state .work + (8 + length (bytesIn m g a)) ≤ length (m .work) → m .state .skip ≡ false → Rep limit ks m p
+      → ContentFits (getD ks g Absent) a → c ≤ 2 → m .state .work + (8 + length (bytesIn m g a)) ≤ length (m .work) → Rep limit ks m p
       → Rep limit ks (recordedIn m g (bytesIn m g a) c) (modelChange p g false (accept a c))
   unfolding modelChange
-  rep-recorded m p g c a h x k d two f s r =
+  rep-recorded m p g c a h x k d two f r =
       let n : m .state .held - 1 ≡ length (p .now .times) - 1 = omega (arith, r .times .long) in
       let q = bytes-are m p g a h r in
       let l : length (bytesIn m g a) < 4294967296 = omega (arith, bytes-few m p g a h d r) in
@@ -150,8 +148,7 @@ module _ (limit : ℕ) (ks : List SignalEncoding) where
         bound = r .bound;
         signals = r .signals;
         closed = r .closed;
-        skip = s;
-        count = r .count;
+        skips = r .skips;
         times = r .times;
         recs = rw n (recs-change ks (m .records) (seenOf (p .blocks)) (p .now .changes) g (length (p .now .times) - 1) c a h two (r .recs));
         work = work-add ks (m .state .work) (m .work) (p .now .changes) g (length (p .now .times) - 1) c a (bytesIn m g a) h x l f q (r .work);

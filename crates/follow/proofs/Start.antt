@@ -105,8 +105,7 @@ begun-rep limit signals m s =
       bound = refl;
       signals = sym n;
       closed = refl;
-      skip = refl;
-      count = refl;
+      skips = refl;
       times = record { long = refl; inside = omega arith; room = s .table; is = refl };
       recs = recs-start (m .records);
       work = work-cut ks (m .work);

@@ -8,6 +8,7 @@ use native.Mathlib.Omega.{arith}
 use lib.ListN.{length, take, getD, set, length-append, length-set}
 use lib.Seq.{take-suc-set, getD-take}
 use Rattle.lists.specs.Last.{lastOr}
+use Rattle.lists.proofs.LastLaws.{last-at}
 
 -- of the buffer the first `held` are the times ts
 pub record TimesRep (limit held : ℕ) (times ts : List ℕ) : Type 0 where
@@ -24,17 +25,12 @@ times-more limit held t times ts h r = record {
   is = rw (add-one held, take-suc-set times held t (omega (arith, r .room)), r .is) refl;
 }
 
-last-at : (x : ℕ) (l : List ℕ) → getD (x ∷ l) (length l) 0 ≡ lastOr x l
-unfolding lastOr
-last-at x [] = refl
-last-at x (y ∷ l) = last-at y l
-
 times-last : (held : ℕ) (times ts : List ℕ) → 0 < held → held ≡ length ts → take held times ≡ ts → getD times (held - 1) 0 ≡ lastOr 0 ts
 unfolding lastOr
 times-last held times [] p h e = absurd (omega arith)
 times-last held times (x ∷ l) p h e =
     let k : held - 1 ≡ length l = omega arith in
-    sym (getD-take held times (held - 1) 0 (omega arith)) ∙ rw (e, k) (last-at x l)
+    sym (getD-take held times (held - 1) 0 (omega arith)) ∙ rw (e, k) (sym (last-at x l))
 
 -- the next table begins with the last time
 pub times-cut : (limit held : ℕ) (times ts : List ℕ) → 0 < held → TimesRep limit held times ts

@@ -16,6 +16,7 @@ use Rattle.codec.specs.Valid.{KnownKinds, BlocksFit, Valid}
 use Rattle.codec.proofs.ImageFits.{image-size}
 use Rattle.recording.specs.Calls.{Call, time, change, finish, CallFits, Fitting, Reply, total, isRefusal, heardOf, refusals, heard, Way, above, equal, below, wayOf}
 use Rattle.recording.specs.Calls as calls
+use Rattle.recording.specs.declared.ProbeSkip.{ProbeSkip}
 use Rattle.recording.specs.Memory.{Memory}
 use Rattle.recording.specs.Step.{startOf, step, run, Ran, kindsOf}
 use Rattle.history.specs.History.{History, noHistory, Telling, tellTime, tellChange, tell, tellAll}
@@ -47,7 +48,7 @@ answer-same ks p h c true s = refl
 answer-same ks p h (time t) false s = ap wayAnswer (way-same p h t s) ∙ time-answer h t (wayOf (h .times) t)
 answer-same ks p h (change g v) false s =
     let d : Decoded = decode (getD ks g Absent) v in
-    ap (λ (b : Bool). changeAnswer b d) (s .skip) ∙ change-answer h g (h .skip) d
+    ap (λ (k : ProbeSkip). changeAnswer (k .on) d) (s .skips) ∙ change-answer h g (h .skips .on) d
 answer-same ks p h finish false s = refl
 
 -- ---- a run

@@ -22,5 +22,5 @@ changeAnswer false (accept a c) = recorded
 unfoldable pub modelAnswer : List SignalEncoding → Model → Call → (refused : Bool) → Heard
 modelAnswer ks p c true = silent
 modelAnswer ks p (time t) false = wayAnswer (wayOf (p .now .times) t)
-modelAnswer ks p (change g v) false = changeAnswer (p .skip) (decode (getD ks g Absent) v)
+modelAnswer ks p (change g v) false = changeAnswer (p .skips .on) (decode (getD ks g Absent) v)
 modelAnswer ks p finish false = silent

@@ -9,7 +9,8 @@ use lib.Seq.{sets}
 use Rattle.image.specs.Head.{headSize, headBytes, imageLimit}
 use Rattle.recording.specs.Memory.{Memory, memory}
 use Rattle.recording.specs.Refusals.{unknownKind}
-use Rattle.recording.specs.Step.{encoder, fresh, kindsOf}
+use Rattle.recording.specs.State.{startState}
+use Rattle.recording.specs.Step.{fresh, kindsOf}
 
 pub record Startable (limit signals : ℕ) (m : Memory) : Type 0 where
   pub low : 2 ≤ limit
@@ -24,6 +25,6 @@ pub record Startable (limit signals : ℕ) (m : Memory) : Type 0 where
 -- the memory that it leaves
 abbrev pub begun : (limit signals : ℕ) → Memory → Memory
 begun limit signals m =
-    memory (encoder false limit signals 0 0 (headSize signals) 0 false 0)
+    memory (startState limit signals)
     (map fresh (m .records)) (m .times) (m .work)
     (sets (m .image) 0 (headBytes limit 0 (headSize signals) (kindsOf (m .records))))

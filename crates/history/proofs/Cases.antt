@@ -28,12 +28,14 @@ unfolding symbolOf classOfAll symbolsIn lastOr vcdBit decode wayOf tell tellAll
 history-answers = refl
 
 pub history-keeps : let h = tellAll (BitVector 1 ∷ []) noHistory skips none-refused .last in
-    (h .times ≡ 10 ∷ 11 ∷ []) × (h .count ≡ 2) × (keptOf h 0 ≡ entry 0 (symbols (1 ∷ [])) ∷ []) × (classOf h 0 ≡ 0) × (classOf h 1 ≡ 2)
+    (h .times ≡ 10 ∷ 11 ∷ []) × (h .skips .count ≡ 2) × (keptOf h 0 ≡ entry 0 (symbols (1 ∷ [])) ∷ []) × (classOf h 0 ≡ 0) × (classOf h 1 ≡ 2)
 unfolding symbolOf classOfAll symbolsIn lastOr vcdBit decode wayOf tell tellAll same listOf keptAfter kept topOf
 history-keeps = (refl, refl, refl, refl, refl)
 
 -- -0.0 and 0.0 are two contents; an event after an event is kept
-pub zeros-differ : let h = tellAll (Real ∷ BitVector 0 ∷ []) noHistory (time 1 ∷ change 0 (real 0) ∷ change 0 (real 0x8000000000000000) ∷ change 1 (vcd []) ∷ change 1 (vcd []) ∷ []) (false ∷ false ∷ false ∷ false ∷ false ∷ []) .last in
+pub zeros-differ : let h =
+    tellAll (Real ∷ BitVector 0 ∷ []) noHistory (time 1 ∷ change 0 (real 0) ∷ change 0 (real 0x8000000000000000) ∷ change 1 (vcd []) ∷ change 1 (vcd []) ∷ [])
+    (false ∷ false ∷ false ∷ false ∷ false ∷ []) .last in
     (keptOf h 0 ≡ entry 0 (bits 0) ∷ entry 0 (bits 0x8000000000000000) ∷ []) × (keptOf h 1 ≡ entry 0 happened ∷ entry 0 happened ∷ [])
 unfolding lastOr decode wayOf tell tellAll same listOf keptAfter kept
 zeros-differ = (refl, refl)

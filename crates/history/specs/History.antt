@@ -1,5 +1,5 @@
 -- Document 01, 'History': what a list of calls says. Fed are kinds, calls and, of the answers, only which are refusals; nothing of the
--- recorder's state.
+-- recorder's state. The rule of the skip is written here anew; only its type is the recorder's.
 -- Assumes nothing.
 use Prim.Native.Nat.{ℕ, _-_, max}
 use mathlib.Core.Bool.{Bool, true, false}
@@ -13,6 +13,7 @@ use Rattle.signal.specs.Content.{Content, Decoded, refuse, accept, decode}
 use Rattle.stream.specs.Entries.{Entry, entry, repeats, orNine}
 use Rattle.recording.specs.Calls as calls
 use Rattle.recording.specs.Calls.{Call, time, change, finish, Heard, taken, back, recorded, skipped, silent, Way, above, equal, below, wayOf, counted}
+use Rattle.recording.specs.declared.ProbeSkip.{ProbeSkip}
 
 -- a change: its signal, the place of the last time (from 0), its content, and the larger of its value's class and a raw claim
 pub record Change : Type 0 where
@@ -21,19 +22,22 @@ pub record Change : Type 0 where
   pub content : Content
   pub class : ℕ
 
--- times, changes in call order, a skip, a count
+-- whether changes are skipped, and how many were
+abbrev pub skipOf : (on : Bool) (count : ℕ) → ProbeSkip
+skipOf b n = record { on = b; count = n }
+
+-- times, changes in call order, a skip and its count
 pub record History : Type 0 where
   pub times : List ℕ
   pub changes : List Change
-  pub skip : Bool
-  pub count : ℕ
+  pub skips : ProbeSkip
 
-abbrev pub history : List ℕ → List Change → Bool → ℕ → History
-history t c s n = record { times = t; changes = c; skip = s; count = n }
+abbrev pub history : List ℕ → List Change → ProbeSkip → History
+history t c k = record { times = t; changes = c; skips = k }
 
 -- at the start empty, off, 0
 abbrev pub noHistory : History
-noHistory = history [] [] false 0
+noHistory = history [] [] (skipOf false 0)
 
 pub record Told : Type 0 where
   pub answer : Heard
@@ -44,23 +48,23 @@ told a h = record { answer = a; next = h }
 
 -- first or above the last: joins the times, ends the skip. Equal: nothing. Below: starts the skip
 abbrev pub tellTime : History → ℕ → Way → Told
-tellTime h t above = told taken (history (h .times ++ t ∷ []) (h .changes) false (h .count))
+tellTime h t above = told taken (history (h .times ++ t ∷ []) (h .changes) (skipOf false (h .skips .count)))
 tellTime h t equal = told calls.same h
-tellTime h t below = told back (history (h .times) (h .changes) true (h .count))
+tellTime h t below = told back (history (h .times) (h .changes) (skipOf true (h .skips .count)))
 
 -- in a skip: counted. A value that says nothing to the signal's kind (then the call is refused): nothing. Else: joins with the place of
 -- the last time, its content and its class
 abbrev pub tellChange : History → (signal : ℕ) → (skip : Bool) → Decoded → Told
-tellChange h g true d = told skipped (history (h .times) (h .changes) true (counted (h .count)))
+tellChange h g true d = told skipped (history (h .times) (h .changes) (skipOf (h .skips .on) (counted (h .skips .count))))
 tellChange h g false (refuse n) = told silent h
 tellChange h g false (accept a c) =
-    told recorded (history (h .times) (h .changes ++ record { signal = g; place = length (h .times) - 1; content = a; class = c } ∷ []) false (h .count))
+    told recorded (history (h .times) (h .changes ++ record { signal = g; place = length (h .times) - 1; content = a; class = c } ∷ []) (h .skips))
 
 -- a refused call, or finish: nothing changes
 unfoldable pub tell : List SignalEncoding → History → Call → (refused : Bool) → Told
 tell ks h c true = told silent h
 tell ks h (time t) false = tellTime h t (wayOf (h .times) t)
-tell ks h (change g v) false = tellChange h g (h .skip) (decode (getD ks g Absent) v)
+tell ks h (change g v) false = tellChange h g (h .skips .on) (decode (getD ks g Absent) v)
 tell ks h finish false = told silent h
 
 pub record Telling : Type 0 where

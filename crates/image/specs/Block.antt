@@ -43,9 +43,20 @@ offsetsFrom at [] = []
 offsetsFrom at (none ∷ ps) = 0 ∷ offsetsFrom at ps
 offsetsFrom at (some p ∷ ps) = suc at ∷ offsetsFrom (at + length (partBytes (some p))) ps
 
--- how many bytes a block has: three numbers, an offset for each signal, the times, the data
+-- where in a block, from its first byte on, a signal's offset stands, after three numbers, and where the times begin
+abbrev pub offsetPlace : (signal : ℕ) → ℕ
+offsetPlace g = 12 + 4 * g
+
+abbrev pub timesPlace : (signals : ℕ) → ℕ
+timesPlace s = 12 + 4 * s
+
+-- how many bytes stand before the data: three numbers, an offset for each signal, the times
+abbrev pub frontSize : (signals times : ℕ) → ℕ
+frontSize s t = timesPlace s + 8 * t
+
+-- how many bytes a block has: those, and the data
 abbrev pub blockSize : (signals times bytes : ℕ) → ℕ
-blockSize s t n = 12 + 4 * s + 8 * t + n
+blockSize s t n = frontSize s t + n
 
 -- its bytes, times T, S, S offsets, T times, data
 unfoldable pub blockBytes : Block (List ℕ) → List ℕ

@@ -2,7 +2,9 @@
 -- Assumes nothing.
 use Prim.Native.Nat.{ℕ, _+_, _*_}
 use mathlib.Core.List.{List, map, _++_}
+use lib.Dec.{eqb}
 use lib.ListN.{length}
+use Rattle.lists.specs.Choice.{pick}
 use Rattle.numbers.specs.LittleEndian.{le}
 use Rattle.signal.specs.declared.kind.SignalEncoding.{SignalEncoding}
 use Rattle.signal.specs.declared.kind.SignalEncoding.the-variants.{BitVector, Real, Absent}
@@ -14,9 +16,17 @@ kindNumber (BitVector w) = w
 kindNumber Real = 0xfffffffe
 kindNumber Absent = 0xffffffff
 
+-- the kind of a number of 32 bits: FFFFFFFF absent, FFFFFFFE real, else a width
+abbrev pub kindFrom : ℕ → SignalEncoding
+kindFrom n = pick (eqb n 0xffffffff) Absent (pick (eqb n 0xfffffffe) Real (BitVector n))
+
 -- the head has four numbers and a number for each signal
 abbrev pub headSize : ℕ → ℕ
 headSize s = 16 + 4 * s
+
+-- where in it a signal's kind stands
+abbrev pub kindPlace : (signal : ℕ) → ℕ
+kindPlace g = 16 + 4 * g
 
 -- an image has at most 1,073,741,824 bytes
 abbrev pub imageLimit : ℕ

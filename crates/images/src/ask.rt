@@ -11,12 +11,11 @@ use reader::cursor;
 use reader::load;
 use reader::stream;
 use reader::table;
-use recording::SignalRef;
+use signal::SignalRef;
+use text::byte_at;
 use text::number::number;
-use text::number::number_32;
 use text::print;
 use text::print_bytes;
-use text::spells;
 use text::word;
 
 fn ask_open(image: &[u8]) {
@@ -26,76 +25,78 @@ fn ask_open(image: &[u8]) {
     print(b"no\n")
 }
 
-fn ask_table(image: &[u8], room: usize, out: &mut [u64]) {
-    if out.len() < room {
+fn ask_table(image: &[u8], room: u64, out: &mut [u64]) {
+    let n = room as usize;
+    if out.len() < n {
         return print(b"not so many\n");
     }
-    let answer = table(image, &mut out[0..room]);
+    let answer = table(image, &mut out[0..n]);
     print_table(answer, &*out)
+}
+
+fn signal(n: u64) -> SignalRef {
+    SignalRef((n % 4294967296) as u32)
 }
 
 fn ask_load(
     image: &[u8],
-    signal: u32,
-    entries: usize,
-    size: usize,
+    number: u64,
+    entries: u64,
+    size: u64,
     index: &mut [u32],
     bytes: &mut [u8],
 ) {
-    if index.len() < entries {
+    let i = entries as usize;
+    let b = size as usize;
+    if index.len() < i {
         return print(b"not so many\n");
     }
-    if bytes.len() < size {
+    if bytes.len() < b {
         return print(b"not so many\n");
     }
-    let answer = load(
-        image,
-        SignalRef(signal),
-        &mut index[0..entries],
-        &mut bytes[0..size],
-    );
+    let answer = load(image, signal(number), &mut index[0..i], &mut bytes[0..b]);
     print_loaded(answer, &*index, &*bytes)
 }
 
-fn ask_stream(image: &[u8], block: u32, signal: u32) {
-    print_bytes(stream(image, block, SignalRef(signal)));
+fn ask_stream(image: &[u8], block: u64, number: u64) {
+    print_bytes(stream(image, (block % 4294967296) as u32, signal(number)));
     print(b"\n")
 }
 
-fn ask_cursor(image: &[u8], signal: u32, time: u64, room: usize, symbols: &mut [u8]) {
-    if symbols.len() < room {
+fn ask_cursor(image: &[u8], number: u64, time: u64, room: u64, symbols: &mut [u8]) {
+    let n = room as usize;
+    if symbols.len() < n {
         return print(b"not so many\n");
     }
-    let answer = cursor(image, SignalRef(signal), time, &mut symbols[0..room]);
+    let answer = cursor(image, signal(number), time, &mut symbols[0..n]);
     print_cursor(answer, &*symbols)
 }
 
-// Puts a question, and lends of this memory what it says.
-fn put(line: &[u8], image: &[u8], times: &mut [u64], index: &mut [u32], bytes: &mut [u8]) {
-    let name = word(line, 0);
-    let first = word(line, 1);
-    if spells(name, b"open") {
-        return ask_open(image);
+// A question's numbers, in their order.
+fn numbers(line: &[u8]) -> [u64; 3] {
+    [
+        number(word(line, 1)),
+        number(word(line, 2)),
+        number(word(line, 3)),
+    ]
+}
+
+// Puts a question, by its first letter, and lends of this memory what it says.
+fn put(
+    name: u8,
+    n: &[u64; 3],
+    image: &[u8],
+    times: &mut [u64],
+    index: &mut [u32],
+    bytes: &mut [u8],
+) {
+    match name {
+        b'o' => ask_open(image),
+        b't' => ask_table(image, n[0], times),
+        b's' => ask_stream(image, n[0], n[1]),
+        b'l' => ask_load(image, n[0], n[1], n[2], index, bytes),
+        _ => ask_cursor(image, n[0], n[1], n[2], bytes),
     }
-    if spells(name, b"table") {
-        return ask_table(image, number(first) as usize, times);
-    }
-    let second = word(line, 2);
-    if spells(name, b"stream") {
-        return ask_stream(image, number_32(first), number_32(second));
-    }
-    let third = number(word(line, 3)) as usize;
-    if spells(name, b"load") {
-        return ask_load(
-            image,
-            number_32(first),
-            number(second) as usize,
-            third,
-            index,
-            bytes,
-        );
-    }
-    ask_cursor(image, number_32(first), number(second), third, bytes)
 }
 
 // Puts a question, with the pattern in all that may be lent.
@@ -103,5 +104,13 @@ pub fn ask(line: &[u8], image: &[u8]) {
     let mut times = [TIME; 64];
     let mut index = [NUMBER; 64];
     let mut bytes = [BYTE; 2048];
-    put(line, image, &mut times, &mut index, &mut bytes);
+    let n = numbers(line);
+    put(
+        byte_at(line, 0),
+        &n,
+        image,
+        &mut times,
+        &mut index,
+        &mut bytes,
+    );
 }

@@ -11,21 +11,16 @@ use text::between;
 use text::byte_at;
 use text::number::hex_bytes;
 use text::past;
-use text::spells;
 use text::word;
 
 // Which word of a question has the image, its last one.
-fn image_word(name: &[u8]) -> usize {
-    if spells(name, b"open") {
-        return 1;
+fn image_word(name: u8) -> usize {
+    match name {
+        b'o' => 1,
+        b't' => 2,
+        b's' => 3,
+        _ => 4,
     }
-    if spells(name, b"table") {
-        return 2;
-    }
-    if spells(name, b"stream") {
-        return 3;
-    }
-    4
 }
 
 // Writes a question's image to the start of space, and answers its length. A `-` stands for the image of the line before, of n bytes.
@@ -37,7 +32,7 @@ fn read_image(space: &mut [u8], n: usize, hex: &[u8]) -> usize {
 }
 
 fn take_line(line: &[u8], space: &mut [u8], n: usize) -> usize {
-    let size = read_image(space, n, word(line, image_word(word(line, 0))));
+    let size = read_image(space, n, word(line, image_word(byte_at(line, 0))));
     ask(line, before(&*space, size));
     size
 }
@@ -59,8 +54,12 @@ fn take_sheet(sheet: &[u8]) {
     take_lines(sheet, &mut space);
 }
 
+fn zeros() -> [u8; 409600] {
+    [0u8; 409600]
+}
+
 fn main() {
-    let mut sheet = [0u8; 409600];
+    let mut sheet = zeros();
     let n = io::read_full(STDIN_FILENO, &mut sheet);
     take_sheet(&sheet[..n]);
 }

@@ -1,6 +1,5 @@
 // Answers, one to a line.
-use crate::lent::BYTE;
-use crate::lent::bytes_stand;
+use crate::lent::bytes_end;
 use crate::lent::numbers_stand;
 use crate::lent::times_stand;
 use libc::STDOUT_FILENO;
@@ -17,8 +16,14 @@ use value::real::Entry;
 use value::real::SignalValue;
 use value::states::States;
 
-fn print_number_32(n: u32) {
+fn print_count(name: &[u8], n: u32) {
+    print(name);
     print_number(n as u64)
+}
+
+fn print_class(class: States) {
+    print(b" class ");
+    print_number(class.number() as u64)
 }
 
 // Ends a line; where memory that is to stand was written, says so.
@@ -30,8 +35,7 @@ fn print_end(stands: bool) {
 }
 
 fn print_refused(number: u32, stands: bool) {
-    print(b"refused ");
-    print_number_32(number);
+    print_count(b"refused ", number);
     print_end(stands)
 }
 
@@ -49,15 +53,16 @@ fn print_times(times: &[u64], count: usize) {
     }
 }
 
+fn print_all_times(count: u32, times: &[u64]) {
+    print_count(b"times ", count);
+    print(b":");
+    print_times(times, count as usize);
+    print_end(times_stand(times, count as usize))
+}
+
 pub fn print_table(answer: TableAnswer, times: &[u64]) {
     match answer {
-        TableAnswer::Table(count) => {
-            print(b"times ");
-            print_number_32(count);
-            print(b":");
-            print_times(times, count as usize);
-            print_end(times_stand(times, count as usize))
-        }
+        TableAnswer::Table(count) => print_all_times(count, times),
         TableAnswer::Refused(number) => print_refused(number, times_stand(times, 0)),
     }
 }
@@ -70,49 +75,36 @@ fn print_indices(index: &[u32], count: usize) {
         if index.len() <= i {
             return;
         }
-        print(b" ");
-        print_number_32(index[i]);
+        print_count(b" ", index[i]);
         i += 1;
     }
 }
 
-// Where the pattern begins that stands to the end.
-fn standing_from(bytes: &[u8]) -> usize {
-    let mut n = 0;
-    let mut i = 0;
-    while i < bytes.len() {
-        let b = bytes[i];
-        i += 1;
-        if b != BYTE {
-            n = i;
-        }
-    }
-    n
-}
-
-fn print_entries(count: u32, class: States, index: &[u32], bytes: &[u8]) {
-    print(b"entries ");
-    print_number_32(count);
-    print(b" class ");
-    print_number(class.number() as u64);
-    print(b":");
-    print_indices(index, count as usize);
-    let n = standing_from(bytes);
+// The entries' bytes are all that were written; how many, the answer does not tell.
+fn print_written(bytes: &[u8]) {
+    let n = bytes_end(bytes);
     if 0 < n {
         print(b" ");
         print_bytes(before(bytes, n));
     }
+}
+
+fn print_entries(count: u32, class: States, index: &[u32], bytes: &[u8]) {
+    print_count(b"entries ", count);
+    print_class(class);
+    print(b":");
+    print_indices(index, count as usize);
+    print_written(bytes);
     print_end(numbers_stand(index, count as usize))
 }
 
 fn stand(index: &[u32], bytes: &[u8]) -> bool {
     if numbers_stand(index, 0) {
-        return bytes_stand(bytes, 0);
+        return bytes_end(bytes) == 0;
     }
     false
 }
 
-// The entries' bytes are all that were written; how many, the answer does not tell.
 pub fn print_loaded(answer: LoadAnswer, index: &[u32], bytes: &[u8]) {
     match answer {
         LoadAnswer::Loaded(count, class) => print_entries(count, class, index, bytes),
@@ -122,22 +114,12 @@ pub fn print_loaded(answer: LoadAnswer, index: &[u32], bytes: &[u8]) {
 
 // ---- the cursor
 
-// How many symbols were written: none is above 8.
-fn written(symbols: &[u8]) -> usize {
-    let mut i = 0;
-    while i < symbols.len() {
-        if 8 < symbols[i] {
-            return i;
-        }
-        i += 1;
-    }
-    i
-}
-
+// A byte that is no symbol is shown as `?`.
 fn print_symbol(n: usize) {
     if n < 9 {
-        print(between(b"01xzhuwl-", n, n + 1));
+        return print(between(b"01xzhuwl-", n, n + 1));
     }
+    print(b"?")
 }
 
 fn print_symbols(symbols: &[u8], count: usize) {
@@ -152,12 +134,10 @@ fn print_symbols(symbols: &[u8], count: usize) {
 }
 
 fn print_vector(class: States, symbols: &[u8]) {
-    let n = written(symbols);
-    print(b" class ");
-    print_number(class.number() as u64);
+    print_class(class);
     print(b" ");
-    print_symbols(symbols, n);
-    print_end(bytes_stand(symbols, n))
+    print_symbols(symbols, bytes_end(symbols));
+    print(b"\n")
 }
 
 // A real is the f64 of its bits, or a NaN where they are a NaN's.
@@ -174,19 +154,22 @@ fn print_real(real: f64, bits: u64, symbols: &[u8]) {
     if !agrees(real, bits) {
         print(b" differs");
     }
-    print_end(bytes_stand(symbols, 0))
+    print_end(bytes_end(symbols) == 0)
 }
 
 fn print_event(symbols: &[u8]) {
     print(b" event");
-    print_end(bytes_stand(symbols, 0))
+    print_end(bytes_end(symbols) == 0)
+}
+
+fn print_place(number: u32, time: u64) {
+    print_count(b"entry ", number);
+    print(b" time ");
+    print_number(time)
 }
 
 fn print_found(number: u32, time: u64, entry: Entry, symbols: &[u8]) {
-    print(b"entry ");
-    print_number_32(number);
-    print(b" time ");
-    print_number(time);
+    print_place(number, time);
     let bits = entry.bits;
     let value = entry.value;
     match value {
@@ -198,13 +181,13 @@ fn print_found(number: u32, time: u64, entry: Entry, symbols: &[u8]) {
 
 fn print_none(symbols: &[u8]) {
     print(b"none");
-    print_end(bytes_stand(symbols, 0))
+    print_end(bytes_end(symbols) == 0)
 }
 
 pub fn print_cursor(answer: CursorAnswer, symbols: &[u8]) {
     match answer {
         CursorAnswer::Found(number, time, entry) => print_found(number, time, entry, symbols),
         CursorAnswer::Nothing => print_none(symbols),
-        CursorAnswer::Refused(number) => print_refused(number, bytes_stand(symbols, 0)),
+        CursorAnswer::Refused(number) => print_refused(number, bytes_end(symbols) == 0),
     }
 }

@@ -1,4 +1,1 @@
-pub mod StateLaws
-pub mod ToldLaws
-pub mod AnswerLaws
 pub mod SumLaws

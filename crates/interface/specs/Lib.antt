@@ -1,4 +1,1 @@
-pub mod State
-pub mod Recorded
-pub mod Answered
 pub mod Sum

@@ -1,38 +1,38 @@
 // The calls on any bytes: each opens first.
-use crate::answers::CursorNumbers;
-use crate::answers::EntryNumbers;
-use crate::answers::JoinNumbers;
-use crate::answers::LoadNumbers;
-use crate::answers::PartNumbers;
-use crate::answers::TableNumbers;
-use crate::answers::cursor_numbers;
-use crate::answers::entry_numbers;
-use crate::answers::join_numbers;
-use crate::answers::load_numbers;
-use crate::answers::table_numbers;
 use crate::opened::wejumo_opened_stream;
-use entry::answer::entry_value;
 use entry::length::entry_len;
+use entry_answer::entry_value;
+use image::kind::kind_from;
+use interface_answers::images::CursorNumbers;
+use interface_answers::images::EntryNumbers;
+use interface_answers::images::JoinNumbers;
+use interface_answers::images::LoadNumbers;
+use interface_answers::images::PartNumbers;
+use interface_answers::images::TableNumbers;
+use interface_answers::images::cursor_numbers;
+use interface_answers::images::entry_numbers;
+use interface_answers::images::join_numbers;
+use interface_answers::images::load_numbers;
+use interface_answers::images::table_numbers;
 use join::join;
 use opener::open;
 use reader::cursor;
 use reader::load;
 use reader::table;
-use recording::SignalRef;
-use storage::kind_from;
+use signal::SignalRef;
 use value::states::States;
 ghost use mathlib.Core.Path.{_≡_};
 ghost use Prim.Native.Nat.{_+_, _≤_};
 ghost use lib.ListN.{length};
 ghost use Rattle.lists.specs.Choice.{pick};
 ghost use Rattle.value.specs.Class.{classNumber, statesOf};
-ghost use Rattle.storage.specs.Storage.{kindFrom};
+ghost use Rattle.image.specs.Head.{kindFrom};
 ghost use Rattle.loaded.specs.Opener.{openOf, streamOf};
 ghost use Rattle.loaded.specs.Reader.{loadOf, tableOf, cursorOf};
 ghost use Rattle.entry.specs.Length.{entryLength};
 ghost use Rattle.joined.specs.Join.{joinOf};
-ghost use Rattle.entry.specs.Answer.{entryValueOf};
-ghost use Rattle.interface.specs.Answered.{loadTold, loadToldOf, tableTold, tableToldOf, joinTold, joinToldOf, partOf, PlaceOf, cursorTold, cursorToldOf, entryTold, entryToldOf};
+ghost use Rattle.interface_answers.specs.Answered.{loadTold, loadToldOf, tableTold, tableToldOf, joinTold, joinToldOf, partOf, PlaceOf, cursorTold, cursorToldOf, entryTold, entryToldOf};
+ghost use Rattle.entry_answer.specs.Answer.{entryValueOf};
 
 // 1 where the bytes are an image, else 0.
 #[no_mangle]

@@ -2,10 +2,8 @@
 //
 // No enum and no bool crosses. A slice crosses as a pointer and a length, a struct of numbers by value. Each function only turns numbers
 // into what the inner call takes, makes it, and turns the answer into numbers; its contract is the inner one's equation through the
-// readings of specs/.
-pub mod answers;
+// readings of crates interface_state and interface_answers.
 pub mod bytes;
 pub mod opened;
 pub mod recorder;
-pub mod state;
 pub mod sum;

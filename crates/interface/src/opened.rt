@@ -1,22 +1,23 @@
 // The calls on an image that the opener accepted: each asks for that, and none tests it again. A C caller owes it; the Rust wrapper's
 // `Image` opens once and holds the bytes borrowed.
-use crate::answers::CursorNumbers;
-use crate::answers::LoadNumbers;
-use crate::answers::PartNumbers;
-use crate::answers::TableNumbers;
-use crate::answers::cursor_numbers;
-use crate::answers::load_numbers;
-use crate::answers::table_numbers;
 use cursor::cursor_in;
+use image::kind::kind_number;
+use interface_answers::images::CursorNumbers;
+use interface_answers::images::LoadNumbers;
+use interface_answers::images::PartNumbers;
+use interface_answers::images::TableNumbers;
+use interface_answers::images::cursor_numbers;
+use interface_answers::images::load_numbers;
+use interface_answers::images::part_numbers;
+use interface_answers::images::table_numbers;
 use loader::load::load_in;
-use storage::kind_number;
 use walk::block::block_start;
 use walk::head::block_count;
 use walk::head::kind_at;
 use walk::head::signal_count;
-use walk::part::part_in;
-use walk::table::table_in;
-use walk::table::table_length;
+use walk_part::part_in;
+use walk_table::table_in;
+use walk_table::table_length;
 ghost use mathlib.Core.Path.{_≡_};
 ghost use mathlib.Core.List.{[]};
 ghost use Prim.Native.Nat.{_+_, _≤_};
@@ -26,7 +27,7 @@ ghost use Rattle.loaded.specs.Opener.{kindAt, streamOf};
 ghost use Rattle.loaded.specs.Loading.{tableFrom};
 ghost use Rattle.loaded.specs.Reader.{loadOf, tableOf, cursorOf};
 ghost use Rattle.walk.specs.Walk.{Opened, imageIn};
-ghost use Rattle.interface.specs.Answered.{loadTold, loadToldOf, tableTold, tableToldOf, partOf, PlaceOf, cursorTold, cursorToldOf};
+ghost use Rattle.interface_answers.specs.Answered.{loadTold, loadToldOf, tableTold, tableToldOf, partOf, PlaceOf, cursorTold, cursorToldOf};
 
 // How many signals there are.
 #[no_mangle]
@@ -96,11 +97,7 @@ pub extern "C" fn wejumo_opened_stream(image: &[u8], block: u32, signal: u32) ->
     if block_count(image) <= block {
         return PartNumbers { from: 0, length: 0 };
     }
-    let part = part_in(image, block_start(image, block), signal);
-    PartNumbers {
-        from: part.from,
-        length: part.to - part.from,
-    }
+    part_numbers(part_in(image, block_start(image, block), signal))
 }
 
 // The last entry of a signal at or before a time, or its first. 4, 9.

@@ -1,76 +1,23 @@
 // The recorder's calls. Signal records cross as they are stored, one number of 64 bits each (crate storage).
-use crate::state::StateNumbers;
-use crate::state::state_after;
-use crate::state::state_from;
-use flat::changes::raw_value_change;
-use flat::changes::real_change;
-use flat::changes::vcd_value_change;
 use flat::finish::finish;
 use flat::start::start;
 use flat::time::time_change;
-use plan::Outcome;
-use recording::Answer;
-use recording::SignalRef;
+use flat_changes::raw_value_change;
+use flat_changes::real_change;
+use flat_changes::vcd_value_change;
+use interface_answers::outcome::OutcomeNumbers;
+use interface_answers::outcome::outcome_numbers;
+use interface_state::StateNumbers;
+use interface_state::state_from;
+use signal::SignalRef;
 ghost use mathlib.Core.Path.{_≡_};
 ghost use mathlib.Core.List.{[]};
 ghost use Rattle.signal.specs.Content.{vcd, raw, real};
-ghost use Rattle.recording.specs.Calls.{replyOf};
 ghost use Rattle.recording.specs.Memory.{memory};
 ghost use Rattle.recording.specs.Step.{startOf, timeOf, changeOf, finishOf};
 ghost use Rattle.storage.specs.Storage.{recordsOf};
-ghost use Rattle.interface.specs.State.{stateFrom};
-ghost use Rattle.interface.specs.Recorded.{answerNumber, valueNumber, outcomeOf, told, toldOf};
-
-// What a call answers, the refusal's number or the total bytes, and the state after it.
-#[repr(C)]
-pub struct OutcomeNumbers {
-    pub answer: u32,
-    pub value: u32,
-    pub state: StateNumbers,
-}
-
-fn answer_number(answer: Answer) -> u32
-    ensures { λ r. ⌜ r ≡ answerNumber (replyOf answer) ⌝ }
-{
-    match answer {
-        Answer::Refused(_) => 0,
-        Answer::Started => 1,
-        Answer::Taken => 2,
-        Answer::Same => 3,
-        Answer::Back => 4,
-        Answer::Recorded => 5,
-        Answer::Skipped => 6,
-        Answer::Finished(_) => 7,
-    }
-}
-
-fn value_number(answer: Answer) -> u32
-    ensures { λ r. ⌜ r ≡ valueNumber (replyOf answer) ⌝ }
-{
-    match answer {
-        Answer::Refused(number) => number,
-        Answer::Started => 0,
-        Answer::Taken => 0,
-        Answer::Same => 0,
-        Answer::Back => 0,
-        Answer::Recorded => 0,
-        Answer::Skipped => 0,
-        Answer::Finished(total) => total,
-    }
-}
-
-fn outcome_numbers(before: StateNumbers, done: Outcome) -> OutcomeNumbers
-    ensures { λ r. ⌜ r ≡ outcomeOf before (replyOf (done .answer)) (done .state) ⌝ }
-{
-    let answer = done.answer;
-    let after = done.state;
-    let state = state_after(before, after);
-    OutcomeNumbers {
-        answer: answer_number(answer),
-        value: value_number(answer),
-        state,
-    }
-}
+ghost use Rattle.interface_state.specs.State.{stateFrom};
+ghost use Rattle.interface_answers.specs.Recorded.{told, toldOf};
 
 // Starts a recording; no work buffer is lent.
 #[no_mangle]

@@ -89,7 +89,8 @@ module _ (a b : List ℕ) (y : Bytes a) (z : Bytes b) (o : Opened a) (q : Opened
   unfolding imageBytes
   tail =
       ap (drop (headSize (length (w .kinds)))) (sym (means b z q .bytes))
-      ∙ drop-at (headBytes (w .limit) (length (w .blocks)) (headSize (length (w .kinds)) + length (blocksBytes (w .kinds) (w .blocks))) (w .kinds)) (blocksBytes (w .kinds) (w .blocks)) (headSize (length (w .kinds)))
+      ∙ drop-at (headBytes (w .limit) (length (w .blocks)) (headSize (length (w .kinds)) + length (blocksBytes (w .kinds) (w .blocks))) (w .kinds))
+      (blocksBytes (w .kinds) (w .blocks)) (headSize (length (w .kinds)))
       (head-size (w .limit) (length (w .blocks)) (headSize (length (w .kinds)) + length (blocksBytes (w .kinds) (w .blocks))) (w .kinds))
 
   whole : (l : List ℕ) (p : ℕ) → take (length l - p) (drop p l) ≡ drop p l

@@ -1,5 +1,7 @@
 // The joined image's bytes.
 use copy::put_part;
+use image::layout::HEAD_BLOCKS;
+use image::layout::HEAD_KINDS;
 use numbers::little_endian::put_u32;
 use walk::block::first_block;
 use walk::head::block_count;
@@ -20,7 +22,7 @@ fn put_numbers(first: &[u8], out: &mut [u8], blocks: u32, total: u32) -> usize
     requires { ⌜ (16 ≤ length (now first)) × (16 ≤ length (now out)) ⌝ }
     ensures { λ r. ⌜ (r ≡ 16) × (now (out .exit) ≡ sets (now (out .entry)) 0 (take 8 (now (first .entry)) ++ (le 4 blocks ++ le 4 total))) ⌝ }
 {
-    let p = put_part(out, 0, first, 0, 8);
+    let p = put_part(out, 0, first, 0, HEAD_BLOCKS);
     let q = put_u32(out, p, blocks);
     put_u32(out, q, total)
 }
@@ -35,6 +37,6 @@ pub fn put_joined(first: &[u8], second: &[u8], out: &mut [u8], total: usize)
     let n = block_count(first) + block_count(second);
     let head = first_block(second);
     let p = put_numbers(first, out, n, total as u32);
-    let q = put_part(out, p, first, 16, first.len() - 16);
+    let q = put_part(out, p, first, HEAD_KINDS, first.len() - HEAD_KINDS);
     put_part(out, q, second, head, second.len() - head);
 }

@@ -1,5 +1,6 @@
 // What refuses a join of accepted images.
-use storage::kind_number;
+use image::kind::kind_number;
+use image::limits::MAX_TOTAL;
 use walk::block::block_start;
 use walk::block::first_block;
 use walk::block::last_time;
@@ -78,7 +79,7 @@ pub fn total_of(first: &[u8], second: &[u8]) -> usize
 pub fn lacks_room(total: usize, room: usize) -> bool
     ensures { λ r. ⌜ r ≡ (ltb imageLimit total || ltb room total) ⌝ }
 {
-    if 1073741824 < total {
+    if MAX_TOTAL < total {
         return true;
     }
     room < total

@@ -50,7 +50,9 @@ both =
 pub both-joined : (joinOf first second (room 108) ≡ joinAfter (joined 107) (both ++ 0x77 ∷ []))
     × (joinOf first second (room 107) ≡ joinAfter (joined 107) both)
     × (joinOf first second (room 106) ≡ joinAfter (refuse 8) (room 106))
-unfolding parse imageForm headForm blockForm layoutForm repeat each lengths unle readLeb stream getChain readChange valueAfter unpacked classOfAll allSymbols digits numberOf lastOr imageBytes blocksBytes streamedParts streamBytes headBytes blockBytes les dataOf offsetsFrom le lebOf groups changeBytes packed risingFrom? rising? eachBelow? knownKinds? contentFits? entryFits? entriesFit? partFits? partsFit? starts? blockFits? blocksFit? valid? same endAfter joinIn
+unfolding parse imageForm headForm blockForm layoutForm repeat each lengths unle readLeb stream getChain readChange valueAfter unpacked classOfAll allSymbols digits numberOf lastOr
+    imageBytes blocksBytes streamedParts streamBytes headBytes blockBytes les dataOf offsetsFrom le lebOf groups changeBytes packed risingFrom? rising? eachBelow? knownKinds?
+    contentFits? entryFits? entriesFit? partFits? partsFit? starts? blockFits? blocksFit? valid? same endAfter joinIn
 both-joined = (refl, refl, refl)
 
 -- an event, B 2: time 5, the event
@@ -63,7 +65,9 @@ fiveTwice = take 72 (joinOf five five (room 72) .out)
 -- three of one time: 98 bytes, three blocks that all start at 5
 pub five-joined : joinOf fiveTwice five (room 98)
     ≡ joinAfter (joined 98) (opened 2 (0 ∷ []) 3 (of (5 ∷ []) (1 ∷ []) (0x00 ∷ 0x00 ∷ []) ++ (of (5 ∷ []) (1 ∷ []) (0x00 ∷ 0x00 ∷ []) ++ of (5 ∷ []) (1 ∷ []) (0x00 ∷ 0x00 ∷ []))))
-unfolding parse imageForm headForm blockForm layoutForm repeat each lengths unle readLeb stream getChain readChange valueAfter unpacked classOfAll allSymbols digits numberOf lastOr imageBytes blocksBytes streamedParts streamBytes headBytes blockBytes les dataOf offsetsFrom le lebOf groups changeBytes packed risingFrom? rising? eachBelow? knownKinds? contentFits? entryFits? entriesFit? partFits? partsFit? starts? blockFits? blocksFit? valid? same endAfter joinIn
+unfolding parse imageForm headForm blockForm layoutForm repeat each lengths unle readLeb stream getChain readChange valueAfter unpacked classOfAll allSymbols digits numberOf lastOr
+    imageBytes blocksBytes streamedParts streamBytes headBytes blockBytes les dataOf offsetsFrom le lebOf groups changeBytes packed risingFrom? rising? eachBelow? knownKinds?
+    contentFits? entryFits? entriesFit? partFits? partsFit? starts? blockFits? blocksFit? valid? same endAfter joinIn
 five-joined = refl
 
 -- ---- refusals, in their order; a refused join leaves the output
@@ -87,7 +91,9 @@ empty limit kinds = opened limit kinds 0 []
 pub no-image : (joinOf [] late (room 1) ≡ joinAfter (refuse 11) (room 1))
     × (joinOf early (late ++ 0 ∷ []) (room 1) ≡ joinAfter (refuse 11) (room 1))
     × (joinOf (early ++ 0 ∷ []) (empty 3 []) (room 1) ≡ joinAfter (refuse 11) (room 1))
-unfolding parse imageForm headForm blockForm layoutForm repeat each lengths unle readLeb stream getChain readChange valueAfter unpacked classOfAll allSymbols digits numberOf lastOr imageBytes blocksBytes streamedParts streamBytes headBytes blockBytes les dataOf offsetsFrom le lebOf groups changeBytes packed risingFrom? rising? eachBelow? knownKinds? contentFits? entryFits? entriesFit? partFits? partsFit? starts? blockFits? blocksFit? valid? same endAfter joinIn
+unfolding parse imageForm headForm blockForm layoutForm repeat each lengths unle readLeb stream getChain readChange valueAfter unpacked classOfAll allSymbols digits numberOf lastOr
+    imageBytes blocksBytes streamedParts streamBytes headBytes blockBytes les dataOf offsetsFrom le lebOf groups changeBytes packed risingFrom? rising? eachBelow? knownKinds?
+    contentFits? entryFits? entriesFit? partFits? partsFit? starts? blockFits? blocksFit? valid? same endAfter joinIn
 no-image = (refl, refl, refl)
 
 -- 14 for S, B or a kind, before 15 and 16
@@ -96,13 +102,17 @@ pub unlike : (joinOf early (empty 2 []) (room 1) ≡ joinAfter (refuse 14) (room
     × (joinOf early (empty 2 (2 ∷ [])) (room 1) ≡ joinAfter (refuse 14) (room 1))
     × (joinOf (empty 2 (0 ∷ [])) (empty 2 (1 ∷ [])) (room 1) ≡ joinAfter (refuse 14) (room 1))
     × (joinOf late five (room 1) ≡ joinAfter (refuse 14) (room 1))
-unfolding parse imageForm headForm blockForm layoutForm repeat each lengths unle readLeb stream getChain readChange valueAfter unpacked classOfAll allSymbols digits numberOf lastOr imageBytes blocksBytes streamedParts streamBytes headBytes blockBytes les dataOf offsetsFrom le lebOf groups changeBytes packed risingFrom? rising? eachBelow? knownKinds? contentFits? entryFits? entriesFit? partFits? partsFit? starts? blockFits? blocksFit? valid? same endAfter joinIn
+unfolding parse imageForm headForm blockForm layoutForm repeat each lengths unle readLeb stream getChain readChange valueAfter unpacked classOfAll allSymbols digits numberOf lastOr
+    imageBytes blocksBytes streamedParts streamBytes headBytes blockBytes les dataOf offsetsFrom le lebOf groups changeBytes packed risingFrom? rising? eachBelow? knownKinds?
+    contentFits? entryFits? entriesFit? partFits? partsFit? starts? blockFits? blocksFit? valid? same endAfter joinIn
 unlike = (refl, refl, refl, refl, refl)
 
 -- 15 where the first has no block, whatever the second has
 pub no-block : (joinOf (empty 2 (1 ∷ [])) (empty 2 (1 ∷ [])) [] ≡ joinAfter (refuse 15) [])
     × (joinOf (empty 2 (1 ∷ [])) early [] ≡ joinAfter (refuse 15) [])
-unfolding parse imageForm headForm blockForm layoutForm repeat each lengths unle readLeb stream getChain readChange valueAfter unpacked classOfAll allSymbols digits numberOf lastOr imageBytes blocksBytes streamedParts streamBytes headBytes blockBytes les dataOf offsetsFrom le lebOf groups changeBytes packed risingFrom? rising? eachBelow? knownKinds? contentFits? entryFits? entriesFit? partFits? partsFit? starts? blockFits? blocksFit? valid? same endAfter joinIn
+unfolding parse imageForm headForm blockForm layoutForm repeat each lengths unle readLeb stream getChain readChange valueAfter unpacked classOfAll allSymbols digits numberOf lastOr
+    imageBytes blocksBytes streamedParts streamBytes headBytes blockBytes les dataOf offsetsFrom le lebOf groups changeBytes packed risingFrom? rising? eachBelow? knownKinds?
+    contentFits? entryFits? entriesFit? partFits? partsFit? starts? blockFits? blocksFit? valid? same endAfter joinIn
 no-block = (refl, refl)
 
 -- 16 where the second starts before the first's end, before 8; at the end it may start, and after it
@@ -111,11 +121,15 @@ pub overlaps : (joinOf late early [] ≡ joinAfter (refuse 16) [])
     × (joinOf early (at 2) (room 78) .reply ≡ joined 78)
     × (joinOf early late (room 79) ≡ joinAfter (refuse 8) (room 79))
     × (joinOf early late (room 80) .reply ≡ joined 80)
-unfolding parse imageForm headForm blockForm layoutForm repeat each lengths unle readLeb stream getChain readChange valueAfter unpacked classOfAll allSymbols digits numberOf lastOr imageBytes blocksBytes streamedParts streamBytes headBytes blockBytes les dataOf offsetsFrom le lebOf groups changeBytes packed risingFrom? rising? eachBelow? knownKinds? contentFits? entryFits? entriesFit? partFits? partsFit? starts? blockFits? blocksFit? valid? same endAfter joinIn
+unfolding parse imageForm headForm blockForm layoutForm repeat each lengths unle readLeb stream getChain readChange valueAfter unpacked classOfAll allSymbols digits numberOf lastOr
+    imageBytes blocksBytes streamedParts streamBytes headBytes blockBytes les dataOf offsetsFrom le lebOf groups changeBytes packed risingFrom? rising? eachBelow? knownKinds?
+    contentFits? entryFits? entriesFit? partFits? partsFit? starts? blockFits? blocksFit? valid? same endAfter joinIn
 overlaps = (refl, refl, refl, refl, refl)
 
 -- an empty second image gives the first, and 8 where that does not fit
 pub empty-second : (joinOf early (empty 2 (1 ∷ [])) (room 55) ≡ joinAfter (joined 54) (early ++ 0x77 ∷ []))
     × (joinOf early (empty 2 (1 ∷ [])) (room 53) ≡ joinAfter (refuse 8) (room 53))
-unfolding parse imageForm headForm blockForm layoutForm repeat each lengths unle readLeb stream getChain readChange valueAfter unpacked classOfAll allSymbols digits numberOf lastOr imageBytes blocksBytes streamedParts streamBytes headBytes blockBytes les dataOf offsetsFrom le lebOf groups changeBytes packed risingFrom? rising? eachBelow? knownKinds? contentFits? entryFits? entriesFit? partFits? partsFit? starts? blockFits? blocksFit? valid? same endAfter joinIn
+unfolding parse imageForm headForm blockForm layoutForm repeat each lengths unle readLeb stream getChain readChange valueAfter unpacked classOfAll allSymbols digits numberOf lastOr
+    imageBytes blocksBytes streamedParts streamBytes headBytes blockBytes les dataOf offsetsFrom le lebOf groups changeBytes packed risingFrom? rising? eachBelow? knownKinds?
+    contentFits? entryFits? entriesFit? partFits? partsFit? starts? blockFits? blocksFit? valid? same endAfter joinIn
 empty-second = (refl, refl)

@@ -44,7 +44,9 @@ long = room 132
 
 -- both give the same bytes: a time after a gap, and one that meets it
 pub both-succeed : (groupedLeft (at 1) (at 5) (at 5) long long ≡ made (threeTimes 1 5 5)) × (groupedRight (at 1) (at 5) (at 5) long long ≡ made (threeTimes 1 5 5))
-unfolding parse imageForm headForm blockForm layoutForm repeat each lengths unle readLeb stream getChain readChange valueAfter unpacked classOfAll allSymbols digits numberOf lastOr imageBytes blocksBytes streamedParts streamBytes headBytes blockBytes les dataOf offsetsFrom le lebOf groups changeBytes packed risingFrom? rising? eachBelow? knownKinds? contentFits? entryFits? entriesFit? partFits? partsFit? starts? blockFits? blocksFit? valid? same endAfter joinIn
+unfolding parse imageForm headForm blockForm layoutForm repeat each lengths unle readLeb stream getChain readChange valueAfter unpacked classOfAll allSymbols digits numberOf lastOr
+    imageBytes blocksBytes streamedParts streamBytes headBytes blockBytes les dataOf offsetsFrom le lebOf groups changeBytes packed risingFrom? rising? eachBelow? knownKinds?
+    contentFits? entryFits? entriesFit? partFits? partsFit? starts? blockFits? blocksFit? valid? same endAfter joinIn
 both-succeed = (refl, refl)
 
 -- both are refused, for the same number or for another
@@ -52,18 +54,24 @@ pub both-refused : (groupedLeft (other 1) (at 5) (at 9) long long ≡ refused 14
     × (groupedLeft (at 5) (at 3) (at 9) long long ≡ refused 16) × (groupedRight (at 5) (at 3) (at 9) long long ≡ refused 16)
     × (groupedLeft (at 5) (at 3) (other 9) long long ≡ refused 16) × (groupedRight (at 5) (at 3) (other 9) long long ≡ refused 14)
     × (groupedLeft (other 1) (at 5) (at 3) long long ≡ refused 14) × (groupedRight (other 1) (at 5) (at 3) long long ≡ refused 16)
-unfolding parse imageForm headForm blockForm layoutForm repeat each lengths unle readLeb stream getChain readChange valueAfter unpacked classOfAll allSymbols digits numberOf lastOr imageBytes blocksBytes streamedParts streamBytes headBytes blockBytes les dataOf offsetsFrom le lebOf groups changeBytes packed risingFrom? rising? eachBelow? knownKinds? contentFits? entryFits? entriesFit? partFits? partsFit? starts? blockFits? blocksFit? valid? same endAfter joinIn
+unfolding parse imageForm headForm blockForm layoutForm repeat each lengths unle readLeb stream getChain readChange valueAfter unpacked classOfAll allSymbols digits numberOf lastOr
+    imageBytes blocksBytes streamedParts streamBytes headBytes blockBytes les dataOf offsetsFrom le lebOf groups changeBytes packed risingFrom? rising? eachBelow? knownKinds?
+    contentFits? entryFits? entriesFit? partFits? partsFit? starts? blockFits? blocksFit? valid? same endAfter joinIn
 both-refused = (refl, refl, refl, refl, refl, refl, refl, refl)
 
 -- why the first and the second need a block: without one a grouping is refused with 15. The third may be empty
 pub empty-ones : (groupedLeft (at 5) noBlocks (at 3) long long ≡ refused 16) × (groupedRight (at 5) noBlocks (at 3) long long ≡ refused 15)
     × (groupedLeft noBlocks (at 5) (at 3) long long ≡ refused 15) × (groupedRight noBlocks (at 5) (at 3) long long ≡ refused 16)
     × (groupedLeft (at 1) (at 5) noBlocks long long ≡ made (twoTimes 1 5)) × (groupedRight (at 1) (at 5) noBlocks long long ≡ made (twoTimes 1 5))
-unfolding parse imageForm headForm blockForm layoutForm repeat each lengths unle readLeb stream getChain readChange valueAfter unpacked classOfAll allSymbols digits numberOf lastOr imageBytes blocksBytes streamedParts streamBytes headBytes blockBytes les dataOf offsetsFrom le lebOf groups changeBytes packed risingFrom? rising? eachBelow? knownKinds? contentFits? entryFits? entriesFit? partFits? partsFit? starts? blockFits? blocksFit? valid? same endAfter joinIn
+unfolding parse imageForm headForm blockForm layoutForm repeat each lengths unle readLeb stream getChain readChange valueAfter unpacked classOfAll allSymbols digits numberOf lastOr
+    imageBytes blocksBytes streamedParts streamBytes headBytes blockBytes les dataOf offsetsFrom le lebOf groups changeBytes packed risingFrom? rising? eachBelow? knownKinds?
+    contentFits? entryFits? entriesFit? partFits? partsFit? starts? blockFits? blocksFit? valid? same endAfter joinIn
 empty-ones = (refl, refl, refl, refl, refl, refl)
 
 -- why the inner output must be long enough, too: 68 bytes are, 67 are not
 pub inner-short : (groupedLeft (at 1) (at 5) (at 3) (room 68) long ≡ refused 16) × (groupedLeft (at 1) (at 5) (at 3) (room 67) long ≡ refused 8)
     × (groupedRight (at 1) (at 5) (at 3) [] long ≡ refused 16)
-unfolding parse imageForm headForm blockForm layoutForm repeat each lengths unle readLeb stream getChain readChange valueAfter unpacked classOfAll allSymbols digits numberOf lastOr imageBytes blocksBytes streamedParts streamBytes headBytes blockBytes les dataOf offsetsFrom le lebOf groups changeBytes packed risingFrom? rising? eachBelow? knownKinds? contentFits? entryFits? entriesFit? partFits? partsFit? starts? blockFits? blocksFit? valid? same endAfter joinIn
+unfolding parse imageForm headForm blockForm layoutForm repeat each lengths unle readLeb stream getChain readChange valueAfter unpacked classOfAll allSymbols digits numberOf lastOr
+    imageBytes blocksBytes streamedParts streamBytes headBytes blockBytes les dataOf offsetsFrom le lebOf groups changeBytes packed risingFrom? rising? eachBelow? knownKinds?
+    contentFits? entryFits? entriesFit? partFits? partsFit? starts? blockFits? blocksFit? valid? same endAfter joinIn
 inner-short = (refl, refl, refl)

@@ -23,7 +23,7 @@ use Rattle.codec.specs.Ends.{endAfter}
 use Rattle.codec.specs.Parse.{parse}
 use Rattle.codec.proofs.Trip.{parse-of, parse-is}
 use Rattle.recording.specs.Memory.{Tests, guarded}
-use Rattle.recording.proofs.TestsLaws.{AllFalse}
+use Rattle.recording.proofs.TestsLaws.{AllFalse, guarded-map, guarded-same, guarded-only}
 use Rattle.joined.specs.Join.{refuse, joined, JoinAfter, joinAfter, joinedImage, differs, noBlock, early, joinTests, joinIn, joinBy}
 use Rattle.joined.specs.Groupings.{Result, refused, made, resultOf, result, andThen, groupedLeft, groupedRight, succeeds, for14Or16, HasRoom, Accepted, Groupings}
 use Rattle.joined.proofs.JoinLaws.{alike, joined-size, Passes, passes, join-valid}
@@ -36,51 +36,9 @@ not-made n u e = let z : _≡_ {A = ℕ} 0 1 = cc in absurd (omega arith)
 same-bytes : (u v : List ℕ) → made u ≡ made v → u ≡ v
 same-bytes u v e = cc
 
--- a join's tests give its result
-result-guarded : (ts : Tests) (out : List ℕ) (done : JoinAfter)
-    → resultOf (guarded ts (λ n. joinAfter (refuse n) out) done .reply) (guarded ts (λ n. joinAfter (refuse n) out) done .out) ≡ guarded ts refused (resultOf (done .reply) (done .out))
-result-guarded [] out done = refl
-result-guarded (t ∷ ts) out done = by (t .0) (result-guarded ts out done)
-  where
-    rest : JoinAfter
-    rest = guarded ts (λ n. joinAfter (refuse n) out) done
-
-    others : Result
-    others = guarded ts refused (resultOf (done .reply) (done .out))
-
-    by : (h : Bool) → resultOf (rest .reply) (rest .out) ≡ others
-        → resultOf (pick h (joinAfter (refuse (t .1)) out) rest .reply) (pick h (joinAfter (refuse (t .1)) out) rest .out) ≡ pick h (refused (t .1)) others
-    by true e = refl
-    by false e = e
-
-then-guarded : (ts : Tests) (b : List ℕ) (f : List ℕ → Result) → andThen (guarded ts refused (made b)) f ≡ guarded ts refused (f b)
-then-guarded [] b f = refl
-then-guarded (t ∷ ts) b f = by (t .0) (then-guarded ts b f)
-  where
-    by : (h : Bool) → andThen (guarded ts refused (made b)) f ≡ guarded ts refused (f b)
-        → andThen (pick h (refused (t .1)) (guarded ts refused (made b))) f ≡ pick h (refused (t .1)) (guarded ts refused (f b))
-    by true e = refl
-    by false e = e
-
--- what is the same where no test holds
-guarded-same : (ts : Tests) (e f : Result) → (AllFalse ts → e ≡ f) → guarded ts refused e ≡ guarded ts refused f
-guarded-same [] e f h = h tt
-guarded-same (t ∷ ts) e f h = by (t .0) refl (guarded-same ts e f)
-  where
-    by : (b : Bool) → t .0 ≡ b → ((AllFalse ts → e ≡ f) → guarded ts refused e ≡ guarded ts refused f)
-        → pick b (refused (t .1)) (guarded ts refused e) ≡ pick b (refused (t .1)) (guarded ts refused f)
-    by true g k = refl
-    by false g k = k (λ n. h (g, n))
-
 -- where something was made no test held
 guarded-made : (ts : Tests) (e : Result) (u : List ℕ) → guarded ts refused e ≡ made u → AllFalse ts × (e ≡ made u)
-guarded-made [] e u h = (tt, h)
-guarded-made (t ∷ ts) e u h = by (t .0) refl h (guarded-made ts e u)
-  where
-    by : (b : Bool) → t .0 ≡ b → pick b (refused (t .1)) (guarded ts refused e) ≡ made u → (guarded ts refused e ≡ made u → AllFalse ts × (e ≡ made u))
-        → AllFalse (t ∷ ts) × (e ≡ made u)
-    by true g h k = not-made (t .1) u h
-    by false g h k = let r = k h in ((g, r .0), r .1)
+guarded-made ts e u = guarded-only (λ (r : Result). r ≡ made u) ts refused e (λ n. not-made n u)
 
 -- ---- a join of images, by its tests
 
@@ -103,8 +61,8 @@ unfolding joinIn
 tested a b out x y s t =
     let bytes : List ℕ = imageBytes (joinedImage x y) in
     ap₂ (λ (o q : Option Image). resultOf (joinBy o q out .reply) (joinBy o q out .out)) (s .accepted) (t .accepted)
-    ∙ result-guarded (joinTests x y (length out)) out (joinAfter (joined (length bytes)) (sets out 0 bytes))
-    ∙ guarded-same (joinTests x y (length out)) _ _ (λ n. ap made (taken-back bytes out (length bytes) refl (passes x y (length out) n .room)))
+    ∙ guarded-map (λ (r : JoinAfter). resultOf (r .reply) (r .out)) (joinTests x y (length out)) (λ n. joinAfter (refuse n) out) (joinAfter (joined (length bytes)) (sets out 0 bytes))
+    ∙ guarded-same (joinTests x y (length out)) refused _ _ (λ n. ap made (taken-back bytes out (length bytes) refl (passes x y (length out) n .room)))
 
 -- ---- ends and starts of joined blocks
 
@@ -195,7 +153,7 @@ module _ {a b c : List ℕ} {x y z : Image} (rx : Reads a x) (ry : Reads b y) (r
   left-inner : (p q : List ℕ) → groupedLeft a b c p q ≡ guarded (joinTests x y (length p)) refused (result (imageBytes (joinedImage x y)) c q)
   left-inner p q =
       ap (λ (r : Result). andThen r (λ ab. result ab c q)) (tested a b p x y rx ry)
-      ∙ then-guarded (joinTests x y (length p)) (imageBytes (joinedImage x y)) (λ ab. result ab c q)
+      ∙ guarded-map (λ (r : Result). andThen r (λ ab. result ab c q)) (joinTests x y (length p)) refused (made (imageBytes (joinedImage x y)))
 
   left-outer : (p q : List ℕ) → AllFalse (joinTests x y (length p))
       → result (imageBytes (joinedImage x y)) c q ≡ guarded (joinTests (joinedImage x y) z (length q)) refused (made (imageBytes (joinedImage (joinedImage x y) z)))
@@ -205,7 +163,7 @@ module _ {a b c : List ℕ} {x y z : Image} (rx : Reads a x) (ry : Reads b y) (r
   right-inner : (r s : List ℕ) → groupedRight a b c r s ≡ guarded (joinTests y z (length r)) refused (result a (imageBytes (joinedImage y z)) s)
   right-inner r s =
       ap (λ (r : Result). andThen r (λ bc. result a bc s)) (tested b c r y z ry rz)
-      ∙ then-guarded (joinTests y z (length r)) (imageBytes (joinedImage y z)) (λ bc. result a bc s)
+      ∙ guarded-map (λ (r : Result). andThen r (λ bc. result a bc s)) (joinTests y z (length r)) refused (made (imageBytes (joinedImage y z)))
 
   right-outer : (r s : List ℕ) → AllFalse (joinTests y z (length r))
       → result a (imageBytes (joinedImage y z)) s ≡ guarded (joinTests x (joinedImage y z) (length s)) refused (made (imageBytes (joinedImage x (joinedImage y z))))
@@ -246,14 +204,14 @@ module _ {a b c : List ℕ} {x y z : Image} (rx : Reads a x) (ry : Reads b y) (r
         → groupedLeft a b c p q ≡ after (differs x y) secondEarly (full p (imageBytes (joinedImage x y))) (after (differs x z) thirdEarly (full q whole) (made whole))
     left-is p q =
         left-inner p q
-        ∙ guarded-same (joinTests x y (length p)) _ _ (left-outer p q)
+        ∙ guarded-same (joinTests x y (length p)) refused _ _ (left-outer p q)
         ∙ rw (nx, some-joined (x .blocks) (y .blocks) nx, end-joined none (x .blocks) (y .blocks) ny, append-assoc (x .blocks) (y .blocks) (z .blocks)) refl
 
     right-is : (r s : List ℕ)
         → groupedRight a b c r s ≡ after (differs y z) thirdEarly (full r (imageBytes (joinedImage y z))) (after (differs x y) secondEarly (full s whole) (made whole))
     right-is r s =
         right-inner r s
-        ∙ guarded-same (joinTests y z (length r)) _ _ (right-outer r s)
+        ∙ guarded-same (joinTests y z (length r)) refused _ _ (right-outer r s)
         ∙ rw (nx, ny, early-joined (endAfter none (x .blocks)) (y .blocks) (z .blocks) ny) refl
 
     left-ends : (p q : List ℕ) → HasRoom (groupedLeft a b c p q) → succeeds (groupedLeft a b c p q) ≡ not (for14Or16 (groupedLeft a b c p q))

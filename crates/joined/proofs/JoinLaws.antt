@@ -3,7 +3,7 @@
 -- Assumes nothing.
 use Prim.Native.Nat.{ℕ, _+_, _≤_}
 use mathlib.Core.Path.{_≡_, refl, sym, ap, ap₂, _∙_, subst}
-use mathlib.Core.Bool.{Bool, true, false, not}
+use mathlib.Core.Bool.{true, false, not}
 use mathlib.Core.List.{List, [], _∷_, _++_, map, append-nil}
 use mathlib.Core.Option.{Option, some, none}
 use native.Mathlib.Omega.{arith}
@@ -12,7 +12,6 @@ use lib.ListN.{length, getD, take, drop, length-append}
 use lib.Seq.{sets}
 use lib.Dec.{ltb, eqb}
 use Rattle.lists.specs.Bytes.{Bytes}
-use Rattle.lists.specs.Choice.{pick}
 use Rattle.lists.specs.Same.{same}
 use Rattle.lists.proofs.ChoiceLaws.{none-holds}
 use Rattle.lists.proofs.SameLaws.{same-true}
@@ -30,8 +29,8 @@ use Rattle.codec.specs.Parse.{parse}
 use Rattle.codec.proofs.Growth.{blocks-append, blocks-join}
 use Rattle.codec.proofs.ImageFits.{image-size}
 use Rattle.codec.proofs.Trip.{parse-is}
-use Rattle.recording.specs.Memory.{Tests, guarded}
-use Rattle.recording.proofs.TestsLaws.{AllFalse, guarded-past}
+use Rattle.recording.specs.Memory.{guarded}
+use Rattle.recording.proofs.TestsLaws.{AllFalse, guarded-past, guarded-only}
 use Rattle.joined.specs.Join.{JoinReply, refuse, joined, JoinAfter, joinAfter, joinedImage, differs, noBlock, early, joinTests, joinIn, joinBy, joinOf}
 
 -- ---- the same B and kinds
@@ -102,20 +101,8 @@ passes x y room p =
     let z = none-holds (ltb imageLimit n) (ltb room n) (p .1 .1 .1 .0) in
     record { same = p .0; some-block = p .1 .0; in-order = p .1 .1 .0; few = ltb-false imageLimit n (z .0); room = ltb-false room n (z .1) }
 
-not-joined : {A : Type 0} (n size : ℕ) → refuse n ≡ joined size → A
+not-joined : (n size : ℕ) → refuse n ≡ joined size → ⊥
 not-joined n size e = let z : _≡_ {A = ℕ} 0 1 = cc in absurd (omega arith)
-
--- what is joined is refused by no test
-passed : (ts : Tests) (out : List ℕ) (done : JoinAfter) (size : ℕ) → guarded ts (λ n. joinAfter (refuse n) out) done .reply ≡ joined size → AllFalse ts
-passed [] out done size e = tt
-passed (t ∷ ts) out done size e = by (t .0) refl e (passed ts out done size)
-  where
-    rest : JoinAfter
-    rest = guarded ts (λ n. joinAfter (refuse n) out) done
-
-    by : (b : Bool) → t .0 ≡ b → pick b (joinAfter (refuse (t .1)) out) rest .reply ≡ joined size → (rest .reply ≡ joined size → AllFalse ts) → AllFalse (t ∷ ts)
-    by true f e k = not-joined (t .1) size e
-    by false f e k = (f, k e)
 
 total-is : (n m : ℕ) → _≡_ {A = JoinReply} (joined n) (joined m) → n ≡ m
 total-is n m q = cc
@@ -129,7 +116,8 @@ unfolding joinIn
 joins x y out size e =
     let bytes : List ℕ = imageBytes (joinedImage x y) in
     let done : JoinAfter = joinAfter (joined (length bytes)) (sets out 0 bytes) in
-    let p = passed (joinTests x y (length out)) out done size e in
+    -- what is joined is refused by no test
+    let p = guarded-only (λ (r : JoinAfter). r .reply ≡ joined size) (joinTests x y (length out)) (λ n. joinAfter (refuse n) out) done (λ n. not-joined n size) e .0 in
     let g : guarded (joinTests x y (length out)) (λ n. joinAfter (refuse n) out) done ≡ done = guarded-past (joinTests x y (length out)) (λ n. joinAfter (refuse n) out) done p in
     let n : size ≡ length bytes = sym (total-is (length bytes) size (ap (λ (r : JoinAfter). r .reply) (sym g) ∙ e)) in
     let z = passes x y (length out) p in

@@ -35,15 +35,18 @@ module _ (l : List ℕ) where
   unfolding callOf
   call-vcd a b d e = rw (a, b, d, e) refl
 
-  pub call-raw : same (word 0 l) (ascii "lend") ≡ false → same (word 0 l) (ascii "start") ≡ false → same (word 0 l) (ascii "time") ≡ false → same (word 0 l) (ascii "vcd") ≡ false → same (word 0 l) (ascii "raw") ≡ true → callOf l ≡ rawOf l
+  pub call-raw : same (word 0 l) (ascii "lend") ≡ false → same (word 0 l) (ascii "start") ≡ false → same (word 0 l) (ascii "time") ≡ false → same (word 0 l) (ascii "vcd") ≡ false
+      → same (word 0 l) (ascii "raw") ≡ true → callOf l ≡ rawOf l
   unfolding callOf
   call-raw a b d e f = rw (a, b, d, e, f) refl
 
-  pub call-real : same (word 0 l) (ascii "lend") ≡ false → same (word 0 l) (ascii "start") ≡ false → same (word 0 l) (ascii "time") ≡ false → same (word 0 l) (ascii "vcd") ≡ false → same (word 0 l) (ascii "raw") ≡ false → same (word 0 l) (ascii "real") ≡ true → callOf l ≡ realOf l
+  pub call-real : same (word 0 l) (ascii "lend") ≡ false → same (word 0 l) (ascii "start") ≡ false → same (word 0 l) (ascii "time") ≡ false → same (word 0 l) (ascii "vcd") ≡ false
+      → same (word 0 l) (ascii "raw") ≡ false → same (word 0 l) (ascii "real") ≡ true → callOf l ≡ realOf l
   unfolding callOf
   call-real a b d e f g = rw (a, b, d, e, f, g) refl
 
-  pub call-finish : same (word 0 l) (ascii "lend") ≡ false → same (word 0 l) (ascii "start") ≡ false → same (word 0 l) (ascii "time") ≡ false → same (word 0 l) (ascii "vcd") ≡ false → same (word 0 l) (ascii "raw") ≡ false → same (word 0 l) (ascii "real") ≡ false
+  pub call-finish : same (word 0 l) (ascii "lend") ≡ false → same (word 0 l) (ascii "start") ≡ false → same (word 0 l) (ascii "time") ≡ false
+      → same (word 0 l) (ascii "vcd") ≡ false → same (word 0 l) (ascii "raw") ≡ false → same (word 0 l) (ascii "real") ≡ false
       → callOf l ≡ pick (same l (ascii "finish")) finish notUnderstood
   unfolding callOf
   call-finish a b d e f g = rw (a, b, d, e, f, g) refl

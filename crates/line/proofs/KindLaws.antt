@@ -17,7 +17,8 @@ use Rattle.signal.specs.declared.kind.SignalEncoding.{SignalEncoding}
 use Rattle.signal.specs.declared.kind.SignalEncoding.the-variants.{BitVector, Real, Absent}
 use Rattle.recording.specs.declared.SignalRecord.{SignalRecord}
 use Rattle.storage.specs.Storage.{Storable, recordsOf}
-use Rattle.storage.proofs.StorageLaws.{kind-width, storable-absent, records-length}
+use Rattle.image.proofs.KindLaws.{kind-width}
+use Rattle.storage.proofs.StorageLaws.{storable-absent, records-length}
 use Rattle.line.specs.Words.{word, wordsOf}
 use Rattle.line.specs.Line.{number32, vector, kindOf, kindsOf, kindsIn}
 use Rattle.line.specs.Command.{kindList, recordFor}

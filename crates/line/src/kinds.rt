@@ -5,7 +5,7 @@ use crate::words::count_words;
 use crate::words::spells;
 use crate::words::word;
 use recording::SignalRecord;
-use recording::SignalRef;
+use signal::SignalRef;
 use signal::kind::SignalEncoding;
 use storage::put_record;
 use value::states::States;

@@ -1,53 +1,27 @@
--- The combined table as it was written, and the whole listing.
+-- The whole listing, and into a lent buffer.
 -- Assumes nothing.
 use Prim.Native.Nat.{ℕ, _≤_, _<_}
-use mathlib.Core.Path.{_≡_, refl, sym, ap, _∙_}
-use mathlib.Core.List.{List, []}
+use mathlib.Core.Path.{_≡_, refl, ap, _∙_}
+use mathlib.Core.List.{List}
 use mathlib.Core.Option.{none}
 use native.Mathlib.Omega.{arith}
-use borrow.Author.Tests.{lt-leb, le-leb, le-ltb}
+use borrow.Author.Tests.{lt-leb, le-leb}
 use lib.Dec.{leb}
 use lib.ListN.{length, take}
-use lib.Seq.{sets, length-sets}
+use lib.Seq.{sets}
 use Rattle.lists.specs.Bytes.{Bytes}
 use Rattle.lists.proofs.ChoiceLaws.{pick-same}
 use Rattle.lists.proofs.SetsLaws.{taken-back}
 use Rattle.ascii.specs.Ascii.{ascii}
 use Rattle.ascii.specs.Put.{Room, Puts}
 use Rattle.ascii.proofs.PutLaws.{puts-length}
-use Rattle.image.specs.Image.{Image}
 use Rattle.codec.specs.Parse.{parse}
-use Rattle.loaded.specs.Loading.{tableFrom}
-use Rattle.loaded.specs.Reader.{TableReply, TableAfter, counted, tableAfter, tableIn}
 use Rattle.walk.specs.Walk.{imageIn}
 use Rattle.walk.proofs.OpenLaws.{parse-opened}
-use Rattle.listing.specs.Listing.{headLine, imageText, textOf, inputLimit, listingOf, listingLimit, listingAfter, written, tooShort, into}
-use Rattle.listing.specs.Written.{Taken}
-use Rattle.listing.proofs.BoundLaws.{table-few, listing-fits}
-use Rattle.listing.proofs.SignalLaws.{small-in}
-
-pub head-same : {s s′ t t′ n n′ : ℕ} → s ≡ s′ → t ≡ t′ → n ≡ n′ → headLine s′ t′ n′ ≡ headLine s t n
-head-same a b c = rw (a, b, c) refl
-
--- ---- the combined table, of n times as the code has it
-
-pub record TableRead (b : List ℕ) (n : ℕ) (times : List ℕ) : Type 0 where
-  pub is : tableFrom [] (imageIn b .blocks) ≡ take n times
-  pub inside : n ≤ length times
-  pub size : n ≡ length (take n times)
-
-table-fits : (x : Image) (out : List ℕ) → length (tableFrom [] (x .blocks)) ≤ length out → tableIn x out ≡ tableAfter (counted (length (tableFrom [] (x .blocks)))) (sets out 0 (tableFrom [] (x .blocks)))
-unfolding tableIn
-table-fits x out h = rw (le-ltb (length out) (length (tableFrom [] (x .blocks))) h) refl
-
-pub table-read : (b : List ℕ) (n : ℕ) (r : TableReply) (times out : List ℕ) → Bytes b → Taken b → 2048 ≤ length out → n ≡ length (tableFrom [] (imageIn b .blocks)) → tableAfter r times ≡ tableIn (imageIn b) out → TableRead b n times
-table-read b n r times out y o h ne e =
-    let x = imageIn b in
-    let ts = tableFrom [] (x .blocks) in
-    let few : length ts ≤ length out = omega (arith, table-few x (small-in b y o)) in
-    let te : times ≡ sets out 0 ts = ap (λ (a : TableAfter). a .times) (e ∙ table-fits x out few) in
-    let is : take n times ≡ ts = ap (take n) te ∙ taken-back ts out n ne (omega arith) in
-    record { is = sym is; inside = omega (arith, ap length te ∙ length-sets out 0 ts); size = ne ∙ sym (ap length is) }
+use Rattle.listing_text.specs.Listing.{imageText, textOf, inputLimit, listingOf, listingLimit}
+use Rattle.listing_text.specs.Written.{Taken}
+use Rattle.listing_text.proofs.BoundLaws.{listing-fits}
+use Rattle.listing.specs.Into.{listingAfter, written, tooShort, into}
 
 -- ---- the whole
 

@@ -1,21 +1,17 @@
-// The listing of an image, which `wavelist` prints. Document 01, 'Bench sheet'. The contracts cite specs/Listing.antt.
+// The listing of an image, which `wavelist` prints. Document 01, 'Bench sheet'. The contracts cite specs/Into.antt, and specs/Listing.antt of
+// crate `listing_text`, which writes the text of an accepted image.
 //
-// `listing` takes any bytes and any buffer. A listing has at most 262,144 bytes (proofs/BoundLaws.antt), so the text is made in a buffer of
-// that length, and copied where it fits.
-mod accepted;
-mod entries;
-mod lines;
-mod signals;
-
-use accepted::image_text;
+// `listing` takes any bytes and any buffer. A listing has at most 262,144 bytes (crate `listing_text`, proofs/BoundLaws.antt), so the text is
+// made in a buffer of that length, and copied where it fits.
 use ascii::write::put_text;
+use listing_text::accepted::image_text;
 use opener::open;
 ghost use mathlib.Core.Path.{_≡_};
 ghost use Prim.Native.Nat.{_≤_};
 ghost use lib.ListN.{length};
 ghost use Rattle.ascii.specs.Put.{Puts};
-ghost use Rattle.listing.specs.Listing.{listingOf, listingAfter, into, listingLimit};
-ghost use Rattle.listing.specs.Written.{listedReply};
+ghost use Rattle.listing_text.specs.Listing.{listingOf, listingLimit};
+ghost use Rattle.listing.specs.Into.{listingAfter, into, listedReply};
 
 // What a listing answers.
 pub enum Listed {

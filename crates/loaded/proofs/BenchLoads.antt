@@ -50,12 +50,16 @@ unfolding imageBytes blocksBytes streamedParts streamBytes headBytes blockBytes 
 bench-bytes = refl
 
 pub bench-parse : parse benchBytes ≡ some bench
-unfolding parse imageForm headForm blockForm layoutForm repeat each lengths unle readLeb stream getChain readChange valueAfter unpacked classOfAll allSymbols digits numberOf lastOr imageBytes blocksBytes streamedParts streamBytes headBytes blockBytes les dataOf offsetsFrom le lebOf groups changeBytes packed risingFrom? rising? eachBelow? knownKinds? contentFits? entryFits? entriesFit? partFits? partsFit? starts? blockFits? blocksFit? valid?
+unfolding parse imageForm headForm blockForm layoutForm repeat each lengths unle readLeb stream getChain readChange valueAfter unpacked classOfAll allSymbols digits numberOf lastOr
+    imageBytes blocksBytes streamedParts streamBytes headBytes blockBytes les dataOf offsetsFrom le lebOf groups changeBytes packed risingFrom? rising? eachBelow? knownKinds?
+    contentFits? entryFits? entriesFit? partFits? partsFit? starts? blockFits? blocksFit? valid?
 bench-parse = refl
 
 -- the table; "signal 0 width 1 class 0 changes 1"; "signal 1 width 4 class 1 changes 2", where 001x is 40 06 and 0001 is 00 01
 pub bench-table : tableOf benchBytes (9 ∷ 9 ∷ 9 ∷ []) ≡ tableAfter (counted 2) (10 ∷ 20 ∷ 9 ∷ [])
-unfolding parse imageForm headForm blockForm layoutForm repeat each lengths unle readLeb stream getChain readChange valueAfter unpacked classOfAll allSymbols digits numberOf lastOr imageBytes blocksBytes streamedParts streamBytes headBytes blockBytes les dataOf offsetsFrom le lebOf groups changeBytes packed risingFrom? rising? eachBelow? knownKinds? contentFits? entryFits? entriesFit? partFits? partsFit? starts? blockFits? blocksFit? valid? tableFrom tableIn
+unfolding parse imageForm headForm blockForm layoutForm repeat each lengths unle readLeb stream getChain readChange valueAfter unpacked classOfAll allSymbols digits numberOf lastOr
+    imageBytes blocksBytes streamedParts streamBytes headBytes blockBytes les dataOf offsetsFrom le lebOf groups changeBytes packed risingFrom? rising? eachBelow? knownKinds?
+    contentFits? entryFits? entriesFit? partFits? partsFit? starts? blockFits? blocksFit? valid? tableFrom tableIn
 bench-table = refl
 
 pub bench-loads : (loadOf benchBytes 0 (7 ∷ 7 ∷ []) (9 ∷ 9 ∷ []) ≡ loadAfter (loaded 1 0) (0 ∷ 7 ∷ []) (1 ∷ 9 ∷ []))
@@ -64,12 +68,16 @@ pub bench-loads : (loadOf benchBytes 0 (7 ∷ 7 ∷ []) (9 ∷ 9 ∷ []) ≡ loa
     × (loadOf benchBytes 2 (7 ∷ []) (9 ∷ []) ≡ loadAfter (reader.refuse 4) (7 ∷ []) (9 ∷ []))
     × (loadOf benchBytes 1 (7 ∷ []) (9 ∷ 9 ∷ 9 ∷ 9 ∷ []) ≡ loadAfter (reader.refuse 9) (7 ∷ []) (9 ∷ 9 ∷ 9 ∷ 9 ∷ []))
     × (loadOf benchBytes 1 (7 ∷ 7 ∷ []) (9 ∷ 9 ∷ 9 ∷ []) ≡ loadAfter (reader.refuse 9) (7 ∷ 7 ∷ []) (9 ∷ 9 ∷ 9 ∷ []))
-unfolding parse imageForm headForm blockForm layoutForm repeat each lengths unle readLeb stream getChain readChange valueAfter unpacked classOfAll allSymbols digits numberOf lastOr imageBytes blocksBytes streamedParts streamBytes headBytes blockBytes les dataOf offsetsFrom le lebOf groups changeBytes packed risingFrom? rising? eachBelow? knownKinds? contentFits? entryFits? entriesFit? partFits? partsFit? starts? blockFits? blocksFit? valid? moved repeatsLast pushed loadFrom entryBytes entriesBytes loadIn same
+unfolding parse imageForm headForm blockForm layoutForm repeat each lengths unle readLeb stream getChain readChange valueAfter unpacked classOfAll allSymbols digits numberOf lastOr
+    imageBytes blocksBytes streamedParts streamBytes headBytes blockBytes les dataOf offsetsFrom le lebOf groups changeBytes packed risingFrom? rising? eachBelow? knownKinds?
+    contentFits? entryFits? entriesFit? partFits? partsFit? starts? blockFits? blocksFit? valid? moved repeatsLast pushed loadFrom entryBytes entriesBytes loadIn same
 bench-loads = (refl, refl, refl, refl, refl)
 
 -- the streams, without the class byte; none in a second block
 pub bench-streams : (streamOf benchBytes 0 0 ≡ 0x01 ∷ []) × (streamOf benchBytes 0 1 ≡ 0x01 ∷ 0x06 ∷ 0x04 ∷ 0x01 ∷ []) × (streamOf benchBytes 1 0 ≡ [])
-unfolding parse imageForm headForm blockForm layoutForm repeat each lengths unle readLeb stream getChain readChange valueAfter unpacked classOfAll allSymbols digits numberOf lastOr imageBytes blocksBytes streamedParts streamBytes headBytes blockBytes les dataOf offsetsFrom le lebOf groups changeBytes packed risingFrom? rising? eachBelow? knownKinds? contentFits? entryFits? entriesFit? partFits? partsFit? starts? blockFits? blocksFit? valid? streamOf
+unfolding parse imageForm headForm blockForm layoutForm repeat each lengths unle readLeb stream getChain readChange valueAfter unpacked classOfAll allSymbols digits numberOf lastOr
+    imageBytes blocksBytes streamedParts streamBytes headBytes blockBytes les dataOf offsetsFrom le lebOf groups changeBytes packed risingFrom? rising? eachBelow? knownKinds?
+    contentFits? entryFits? entriesFit? partFits? partsFit? starts? blockFits? blocksFit? valid? streamOf
 bench-streams = (refl, refl, refl)
 
 -- at 9, before the first: entry 0 with its time 10; at 19 entry 0; at 20 entry 1; a buffer of three bytes is too short
@@ -77,7 +85,9 @@ pub bench-cursor : (cursorOf benchBytes 1 9 (7 ∷ 7 ∷ 7 ∷ 7 ∷ 7 ∷ []) �
     × (cursorOf benchBytes 1 19 (7 ∷ 7 ∷ 7 ∷ 7 ∷ []) ≡ cursorAfter (found 0 10 (vector 1 0)) (0 ∷ 0 ∷ 1 ∷ 2 ∷ []))
     × (cursorOf benchBytes 1 20 (7 ∷ 7 ∷ 7 ∷ 7 ∷ []) ≡ cursorAfter (found 1 20 (vector 0 0)) (0 ∷ 0 ∷ 0 ∷ 1 ∷ []))
     × (cursorOf benchBytes 1 20 (7 ∷ 7 ∷ 7 ∷ []) ≡ cursorAfter (reader.refuse 9) (7 ∷ 7 ∷ 7 ∷ []))
-unfolding parse imageForm headForm blockForm layoutForm repeat each lengths unle readLeb stream getChain readChange valueAfter unpacked classOfAll allSymbols digits numberOf lastOr imageBytes blocksBytes streamedParts streamBytes headBytes blockBytes les dataOf offsetsFrom le lebOf groups changeBytes packed risingFrom? rising? eachBelow? knownKinds? contentFits? entryFits? entriesFit? partFits? partsFit? starts? blockFits? blocksFit? valid? moved repeatsLast pushed loadFrom lastBefore cursorIn same
+unfolding parse imageForm headForm blockForm layoutForm repeat each lengths unle readLeb stream getChain readChange valueAfter unpacked classOfAll allSymbols digits numberOf lastOr
+    imageBytes blocksBytes streamedParts streamBytes headBytes blockBytes les dataOf offsetsFrom le lebOf groups changeBytes packed risingFrom? rising? eachBelow? knownKinds?
+    contentFits? entryFits? entriesFit? partFits? partsFit? starts? blockFits? blocksFit? valid? moved repeatsLast pushed loadFrom lastBefore cursorIn same
 bench-cursor = (refl, refl, refl, refl)
 
 -- a vector of width 1, an event, a vector of width 1, a real, an absent signal; B 2, times 1 2 and 2 3. The first vector: x at 1, 1 at 2,
@@ -97,7 +107,10 @@ pub blocks-load : (loadOf twoBlocks 0 (9 ∷ 9 ∷ 9 ∷ []) (9 ∷ 9 ∷ 9 ∷ 
     × (tableOf twoBlocks (9 ∷ 9 ∷ 9 ∷ []) ≡ tableAfter (counted 3) (1 ∷ 2 ∷ 3 ∷ []))
     × (tableOf twoBlocks (9 ∷ 9 ∷ []) ≡ tableAfter (reader.refuse 9) (9 ∷ 9 ∷ []))
     × (streamOf twoBlocks 1 0 ≡ 0x11 ∷ 0x02 ∷ [])
-unfolding parse imageForm headForm blockForm layoutForm repeat each lengths unle readLeb stream getChain readChange valueAfter unpacked classOfAll allSymbols digits numberOf lastOr imageBytes blocksBytes streamedParts streamBytes headBytes blockBytes les dataOf offsetsFrom le lebOf groups changeBytes packed risingFrom? rising? eachBelow? knownKinds? contentFits? entryFits? entriesFit? partFits? partsFit? starts? blockFits? blocksFit? valid? moved repeatsLast pushed loadFrom entryBytes entriesBytes loadIn same tableFrom tableIn streamOf
+unfolding parse imageForm headForm blockForm layoutForm repeat each lengths unle readLeb stream getChain readChange valueAfter unpacked classOfAll allSymbols digits numberOf lastOr
+    imageBytes blocksBytes streamedParts streamBytes headBytes blockBytes les dataOf offsetsFrom le lebOf groups changeBytes packed risingFrom? rising? eachBelow? knownKinds?
+    contentFits? entryFits? entriesFit? partFits? partsFit? starts? blockFits? blocksFit? valid? moved repeatsLast pushed loadFrom entryBytes entriesBytes loadIn same tableFrom
+    tableIn streamOf
 blocks-load = (refl, refl, refl, refl, refl, refl, refl, refl)
 
 -- of the entries up to a time the last; an event and "none" leave the buffer
@@ -105,5 +118,8 @@ pub blocks-cursor : (cursorOf twoBlocks 0 2 (9 ∷ []) ≡ cursorAfter (found 1 
     × (cursorOf twoBlocks 0 0xffffffffffffffff (9 ∷ 9 ∷ []) ≡ cursorAfter (found 2 3 (vector 1 0)) (2 ∷ 9 ∷ []))
     × (cursorOf twoBlocks 1 0 (9 ∷ []) ≡ cursorAfter (found 0 2 (event 0)) (9 ∷ []))
     × (cursorOf twoBlocks 3 5 (9 ∷ []) ≡ cursorAfter nothing (9 ∷ []))
-unfolding parse imageForm headForm blockForm layoutForm repeat each lengths unle readLeb stream getChain readChange valueAfter unpacked classOfAll allSymbols digits numberOf lastOr imageBytes blocksBytes streamedParts streamBytes headBytes blockBytes les dataOf offsetsFrom le lebOf groups changeBytes packed risingFrom? rising? eachBelow? knownKinds? contentFits? entryFits? entriesFit? partFits? partsFit? starts? blockFits? blocksFit? valid? moved repeatsLast pushed loadFrom entryBytes entriesBytes loadIn same lastBefore cursorIn
+unfolding parse imageForm headForm blockForm layoutForm repeat each lengths unle readLeb stream getChain readChange valueAfter unpacked classOfAll allSymbols digits numberOf lastOr
+    imageBytes blocksBytes streamedParts streamBytes headBytes blockBytes les dataOf offsetsFrom le lebOf groups changeBytes packed risingFrom? rising? eachBelow? knownKinds?
+    contentFits? entryFits? entriesFit? partFits? partsFit? starts? blockFits? blocksFit? valid? moved repeatsLast pushed loadFrom entryBytes entriesBytes loadIn same lastBefore
+    cursorIn
 blocks-cursor = (refl, refl, refl, refl)

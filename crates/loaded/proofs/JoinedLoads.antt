@@ -35,7 +35,10 @@ both =
 pub both-load : (tableOf both (8 ∷ 8 ∷ 8 ∷ 8 ∷ []) ≡ tableAfter (counted 3) (1 ∷ 5 ∷ 9 ∷ 8 ∷ []))
     × (loadOf both 0 (7 ∷ 7 ∷ 7 ∷ []) (9 ∷ 9 ∷ 9 ∷ []) ≡ loadAfter (loaded 2 0) (0 ∷ 2 ∷ 7 ∷ []) (0x01 ∷ 0x00 ∷ 9 ∷ []))
     × (loadOf both 1 (7 ∷ 7 ∷ []) (9 ∷ 9 ∷ 9 ∷ []) ≡ loadAfter (loaded 1 2) (1 ∷ 7 ∷ []) (0x00 ∷ 0x03 ∷ 9 ∷ []))
-unfolding parse imageForm headForm blockForm layoutForm repeat each lengths unle readLeb stream getChain readChange valueAfter unpacked classOfAll allSymbols digits numberOf lastOr imageBytes blocksBytes streamedParts streamBytes headBytes blockBytes les dataOf offsetsFrom le lebOf groups changeBytes packed risingFrom? rising? eachBelow? knownKinds? contentFits? entryFits? entriesFit? partFits? partsFit? starts? blockFits? blocksFit? valid? tableFrom tableIn moved repeatsLast pushed loadFrom entryBytes entriesBytes loadIn same
+unfolding parse imageForm headForm blockForm layoutForm repeat each lengths unle readLeb stream getChain readChange valueAfter unpacked classOfAll allSymbols digits numberOf lastOr
+    imageBytes blocksBytes streamedParts streamBytes headBytes blockBytes les dataOf offsetsFrom le lebOf groups changeBytes packed risingFrom? rising? eachBelow? knownKinds?
+    contentFits? entryFits? entriesFit? partFits? partsFit? starts? blockFits? blocksFit? valid? tableFrom tableIn moved repeatsLast pushed loadFrom entryBytes entriesBytes loadIn
+    same
 both-load = (refl, refl, refl)
 
 -- B 2, an event at time 5, three times: one time, three entries at it
@@ -45,7 +48,10 @@ fiveThrice =
 
 pub five-load : (tableOf fiveThrice (8 ∷ 8 ∷ []) ≡ tableAfter (counted 1) (5 ∷ 8 ∷ []))
     × (loadOf fiveThrice 0 (7 ∷ 7 ∷ 7 ∷ 7 ∷ []) [] ≡ loadAfter (loaded 3 0) (0 ∷ 0 ∷ 0 ∷ 7 ∷ []) [])
-unfolding parse imageForm headForm blockForm layoutForm repeat each lengths unle readLeb stream getChain readChange valueAfter unpacked classOfAll allSymbols digits numberOf lastOr imageBytes blocksBytes streamedParts streamBytes headBytes blockBytes les dataOf offsetsFrom le lebOf groups changeBytes packed risingFrom? rising? eachBelow? knownKinds? contentFits? entryFits? entriesFit? partFits? partsFit? starts? blockFits? blocksFit? valid? tableFrom tableIn moved repeatsLast pushed loadFrom entryBytes entriesBytes loadIn same
+unfolding parse imageForm headForm blockForm layoutForm repeat each lengths unle readLeb stream getChain readChange valueAfter unpacked classOfAll allSymbols digits numberOf lastOr
+    imageBytes blocksBytes streamedParts streamBytes headBytes blockBytes les dataOf offsetsFrom le lebOf groups changeBytes packed risingFrom? rising? eachBelow? knownKinds?
+    contentFits? entryFits? entriesFit? partFits? partsFit? starts? blockFits? blocksFit? valid? tableFrom tableIn moved repeatsLast pushed loadFrom entryBytes entriesBytes loadIn
+    same
 five-load = (refl, refl)
 
 -- width 1, B 2: time 1, "0", time 2; after a gap time 7, "x". At 6 the cursor is still on entry 0
@@ -56,5 +62,8 @@ pub gap-load : (tableOf gap (8 ∷ 8 ∷ 8 ∷ []) ≡ tableAfter (counted 3) (1
     × (loadOf gap 0 (7 ∷ 7 ∷ []) (9 ∷ 9 ∷ []) ≡ loadAfter (loaded 2 1) (0 ∷ 2 ∷ []) (0x00 ∷ 0x42 ∷ []))
     × (cursorOf gap 0 6 (9 ∷ []) ≡ cursorAfter (found 0 1 (vector 0 0)) (0 ∷ []))
     × (cursorOf gap 0 7 (9 ∷ []) ≡ cursorAfter (found 1 7 (vector 1 0)) (2 ∷ []))
-unfolding parse imageForm headForm blockForm layoutForm repeat each lengths unle readLeb stream getChain readChange valueAfter unpacked classOfAll allSymbols digits numberOf lastOr imageBytes blocksBytes streamedParts streamBytes headBytes blockBytes les dataOf offsetsFrom le lebOf groups changeBytes packed risingFrom? rising? eachBelow? knownKinds? contentFits? entryFits? entriesFit? partFits? partsFit? starts? blockFits? blocksFit? valid? tableFrom tableIn moved repeatsLast pushed loadFrom entryBytes entriesBytes loadIn lastBefore cursorIn same
+unfolding parse imageForm headForm blockForm layoutForm repeat each lengths unle readLeb stream getChain readChange valueAfter unpacked classOfAll allSymbols digits numberOf lastOr
+    imageBytes blocksBytes streamedParts streamBytes headBytes blockBytes les dataOf offsetsFrom le lebOf groups changeBytes packed risingFrom? rising? eachBelow? knownKinds?
+    contentFits? entryFits? entriesFit? partFits? partsFit? starts? blockFits? blocksFit? valid? tableFrom tableIn moved repeatsLast pushed loadFrom entryBytes entriesBytes loadIn
+    lastBefore cursorIn same
 gap-load = (refl, refl, refl, refl)

@@ -1,6 +1,6 @@
 -- Loading block after block, on plain lists and in an accepted image.
 -- Assumes nothing.
-use Prim.Native.Nat.{ℕ, suc, _+_, _-_, _≤_, _<_}
+use Prim.Native.Nat.{ℕ, suc, _+_, _-_, _*_, _≤_, _<_}
 use mathlib.Core.Path.{_≡_, refl, sym, ap, _∙_, subst}
 use mathlib.Core.Bool.{Bool, true, false}
 use mathlib.Core.List.{List, [], _∷_, map}
@@ -22,15 +22,14 @@ use Rattle.loaded.specs.EntryBytes.{entriesBytes}
 use Rattle.loaded.proofs.TableLaws.{overlap-both, joined-length}
 use Rattle.loaded.specs.Reader.{indexIn}
 use Rattle.walk.specs.Walk.{Opened, imageIn, blockPlace, lastTime, sharedTimes}
-use Rattle.walk.proofs.HeadLaws.{means, head-in}
-use Rattle.walk.proofs.BlockLaws.{here, next-size, end-place, any-time}
-use Rattle.walk.proofs.TableLaws.{overlap-shared, last-joined}
-use Rattle.entry.specs.Kept.{KeptReads}
-use Rattle.loader.specs.Output.{Output, output, allTaken, Room, nothingKept, outputAs, holding}
-use Rattle.loader.specs.Blocks.{changesIn, topOf}
-use Rattle.loader.specs.declared.changes.Loading.{Loading}
-use Rattle.loader.proofs.OutputLaws.{taken-pushed, Grows, grows-same, grows-both, all-grows, room-first}
-use Rattle.loader.proofs.BlockLaws.{blocks-left}
+use Rattle.walk.proofs.HeadLaws.{head-in}
+use Rattle.walk.proofs.BlockLaws.{blocks-left, here, next-size, any-time}
+use Rattle.walk_table.proofs.TableLaws.{overlap-shared, last-joined}
+use Rattle.entry_same.specs.Kept.{KeptReads}
+use Rattle.loader_block.specs.Output.{Output, output, allTaken, Room, nothingKept, outputAs, holding}
+use Rattle.loader_block.specs.Blocks.{changesIn, topOf}
+use Rattle.loader_block.specs.declared.Loading.{Loading}
+use Rattle.loader_block.proofs.OutputLaws.{taken-pushed, Grows, grows-same, grows-both, all-grows, room-first}
 
 -- ---- entries and class only grow
 
@@ -61,11 +60,11 @@ held-sizes k c true i b es = (length-sets i 0 (map indexIn es), length-sets b 0 
 pub record Passing (b : List ℕ) (g c : ℕ) (w : Bool) (index bytes : List ℕ) (number at times : ℕ) (later : Bool) (end : ℕ) (s : Loading) (index' bytes' : List ℕ) : Type 0 where
   pub l : Load
   pub rest : loadFrom g l (drop number (imageIn b .blocks)) ≡ loads g (imageIn b .blocks)
-  pub inside : number ≤ length (imageIn b .blocks)
   pub size : times ≡ length (l .times)
   pub ends : lastTime (l .times) ≡ endOf later end
   pub early : times ≤ at
   pub few : s .count ≤ at
+  pub used : s .used ≤ 4 * at
   pub place : at ≡ blockPlace (imageIn b) number
   pub reads : KeptReads (kindAt (imageIn b) g) b (s .last)
   pub same : outputAs (kindAt (imageIn b) g) b s index' bytes' ≡ holding (kindAt (imageIn b) g) c w index bytes (l .entries)
@@ -86,11 +85,11 @@ pub passing-first : (b : List ℕ) (g c : ℕ) (w : Bool) (index bytes : List �
 passing-first b g c w index bytes at s y o e z = rw z (record {
   l = load [] [] 0;
   rest = refl;
-  inside = omega arith;
   size = refl;
   ends = refl;
   early = omega arith;
   few = omega arith;
+  used = omega arith;
   place = e;
   reads = tt;
   same = held-nothing (kindAt (imageIn b) g) c w index bytes;
@@ -159,33 +158,30 @@ module _ (b : List ℕ) (g c : ℕ) (w : Bool) (index bytes : List ℕ) (number 
     next-room r = made-room base from-base r
 
     pub passing-on : (times' at' end' : ℕ) (s' : Loading) (i j : List ℕ) → times' ≡ base + length (next .times) → at' ≡ blockPlace x (suc number) → end' ≡ lastOr 0 (next .times)
-        → KeptReads (kindAt x g) b (s' .last) → s' .count ≤ blockPlace x (suc number)
+        → KeptReads (kindAt x g) b (s' .last) → s' .count ≤ blockPlace x (suc number) → s' .used ≤ 4 * blockPlace x (suc number)
         → outputAs (kindAt x g) b s' i j ≡ allTaken (kindAt x g) c w (outputAs (kindAt x g) b s index' bytes') (changesIn x number g base)
         → Passing b g c w index bytes (number + 1) at' times' true end' s' i j
-    passing-on times' at' end' s' i j k l u r few q =
+    passing-on times' at' end' s' i j k l u r few used q =
         let m : number + 1 ≡ suc number = omega arith in
         rw m (record {
           l = loadBlock g (p .l) next;
           rest = rest-next;
-          inside = h;
           size = k ∙ ap (λ (v : ℕ). v + length (next .times)) from-base ∙ sym (joined-length (p .l .times) (next .times));
           ends = last-joined (p .l .times) (next .times) (any-time number b y o h) ∙ ap some (sym u);
           early = omega (arith, base-early, next-times .0);
           few = omega arith;
+          used = omega arith;
           place = l;
           reads = r;
           same = q ∙ made base from-base;
         })
 
-pub passed : (b : List ℕ) (g c : ℕ) (w : Bool) (index bytes : List ℕ) (number at times : ℕ) (later : Bool) (end : ℕ) (s : Loading) (index' bytes' : List ℕ) → Bytes b → Opened b
+pub passed : (b : List ℕ) (g c : ℕ) (w : Bool) (index bytes : List ℕ) (number at times : ℕ) (later : Bool) (end : ℕ) (s : Loading) (index' bytes' : List ℕ)
     → Passing b g c w index bytes number at times later end s index' bytes' → length (imageIn b .blocks) ≤ number
-    → (s .count ≤ imageLimit)
-    × (outputAs (kindAt (imageIn b) g) b s index' bytes' ≡ holding (kindAt (imageIn b) g) c w index bytes (loads g (imageIn b .blocks) .entries))
+    → outputAs (kindAt (imageIn b) g) b s index' bytes' ≡ holding (kindAt (imageIn b) g) c w index bytes (loads g (imageIn b .blocks) .entries)
 unfolding loadFrom
-passed b g c w index bytes number at times later end s index' bytes' y o p h =
+passed b g c w index bytes number at times later end s index' bytes' p h =
     let x = imageIn b in
     let none-left : drop number (x .blocks) ≡ [] = drop-of-length-le (x .blocks) h in
     let all : p .l ≡ loads g (x .blocks) = subst (λ (bs : List (Block (List Entry))). loadFrom g (p .l) bs ≡ loads g (x .blocks)) none-left (p .rest) in
-    let n : number ≡ length (x .blocks) = omega (arith, p .inside) in
-    let e : blockPlace x number ≡ length b = ap (blockPlace x) n ∙ end-place b x (means b y o) in
-    (omega (arith, p .few, p .place, head-in b y o .most), p .same ∙ ap (λ (l : Load). holding (kindAt x g) c w index bytes (l .entries)) all)
+    p .same ∙ ap (λ (l : Load). holding (kindAt x g) c w index bytes (l .entries)) all

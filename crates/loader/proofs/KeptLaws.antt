@@ -25,10 +25,10 @@ use Rattle.loaded.specs.Opener.{kindAt, partAt, streamIn}
 use Rattle.loaded.specs.Loading.{overlap, tableFrom, moved, repeatsLast, pushed, Load, load, entriesIn, topIn, loadBlock, loadFrom, loads, signalClass}
 use Rattle.loaded.proofs.TableLaws.{overlap-both, joined-length}
 use Rattle.entry.proofs.EntriesLaws.{EachFits}
-use Rattle.walk.proofs.PartLaws.{entries-fit}
-use Rattle.loader.specs.Least.{leastLength, streamsLength}
+use Rattle.walk_part.proofs.PartLaws.{entries-fit}
+use Rattle.loader_measure.specs.Least.{leastLength, streamsLength}
 use Rattle.loader.proofs.BlocksLaws.{class-grows}
-use Rattle.loader.proofs.LeastLaws.{part-least}
+use Rattle.loader_measure.proofs.LeastLaws.{part-least}
 
 -- ---- the combined table
 

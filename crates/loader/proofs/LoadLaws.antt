@@ -28,11 +28,11 @@ use Rattle.entry.specs.Length.{classByte, wideLength, entryLength}
 use Rattle.entry.proofs.EntriesLaws.{entries-length}
 use Rattle.walk.specs.Walk.{Opened, imageIn}
 use Rattle.walk.proofs.HeadLaws.{means}
-use Rattle.loader.specs.Output.{Output, Room, holding, outputAs}
+use Rattle.loader_block.specs.Output.{Output, Room, holding, outputAs}
 use Rattle.loader.specs.Sizes.{tooShort, classAnswered}
-use Rattle.loader.specs.Least.{leastLength, streamsLength}
-use Rattle.loader.specs.declared.changes.Loading.{Loading}
-use Rattle.loader.proofs.LeastLaws.{least-any}
+use Rattle.loader_measure.specs.Least.{leastLength, streamsLength}
+use Rattle.loader_block.specs.declared.Loading.{Loading}
+use Rattle.loader_measure.proofs.LeastLaws.{least-any}
 use Rattle.loader.proofs.KeptLaws.{top-most, class-most, kept-fits, kept-least}
 
 -- ---- the kept entries
@@ -99,24 +99,33 @@ size-small k c n h z m = mul-le-mul m (entry-small k c h z)
 
 -- ---- the tests
 
-pub short-index : (k : SignalEncoding) (c n i b : ℕ) → i < n → true ≡ tooShort k c n i b
-short-index k c n i b h = rw (lt-ltb i n h) refl
+pub short-index : (n u i b : ℕ) → i < n → true ≡ tooShort n u i b
+short-index n u i b h = rw (lt-ltb i n h) refl
 
-pub short-bytes : (k : SignalEncoding) (c n i b m : ℕ) → n ≤ i → m ≡ entryLength k c → ltb b (n * m) ≡ tooShort k c n i b
-short-bytes k c n i b m h e = rw (le-ltb i n h, e) refl
+pub short-bytes : (n u i b : ℕ) → n ≤ i → ltb b u ≡ tooShort n u i b
+short-bytes n u i b h = rw (le-ltb i n h) refl
 
--- there is room for so many entries
-room-of : (k : SignalEncoding) (c n i b : ℕ) → tooShort k c n i b ≡ false → (n ≤ i) × (n * entryLength k c ≤ b)
-room-of k c n i b h =
-    let q = none-holds (ltb i n) (ltb b (n * entryLength k c)) h in
-    (ltb-false i n (q .0), ltb-false b (n * entryLength k c) (q .1))
+-- there is room for so many entries, of so many bytes
+room-of : (n u i b : ℕ) → tooShort n u i b ≡ false → (n ≤ i) × (u ≤ b)
+room-of n u i b h =
+    let q = none-holds (ltb i n) (ltb b u) h in
+    (ltb-false i n (q .0), ltb-false b u (q .1))
 
 -- where there is room for more, there is for fewer
-pub room-fewer : (k : SignalEncoding) (c n m i b : ℕ) → n ≤ m → tooShort k c m i b ≡ false → false ≡ tooShort k c n i b
-room-fewer k c n m i b h e =
-    let r = room-of k c m i b e in
-    let f : n * entryLength k c ≤ m * entryLength k c = mul-le-mul h (omega arith) in
-    rw (le-ltb i n (omega arith), le-ltb b (n * entryLength k c) (omega arith)) refl
+room-fewer : (n m u v i b : ℕ) → n ≤ m → u ≤ v → tooShort m v i b ≡ false → false ≡ tooShort n u i b
+room-fewer n m u v i b h f e =
+    let r = room-of m v i b e in
+    rw (le-ltb i n (omega arith), le-ltb b u (omega arith)) refl
+
+-- where there is room for `most` entries, each as long, there is for those that are kept
+pub room-most : (b : List ℕ) (g : ℕ) (k : SignalEncoding) (c most size i j : ℕ) → Sized b g → k ≡ kindAt (imageIn b) g → c ≡ loads g (imageIn b .blocks) .class → size ≡ entryLength k c
+    → length (loads g (imageIn b .blocks) .entries) ≤ most → tooShort most (most * size) i j ≡ false
+    → false ≡ tooShort (length (loads g (imageIn b .blocks) .entries)) (length (entriesBytes (kindAt (imageIn b) g) c (loads g (imageIn b .blocks) .entries))) i j
+room-most b g k c most size i j z e m s h t =
+    let es : List Entry = loads g (imageIn b .blocks) .entries in
+    let held : length (entriesBytes (kindAt (imageIn b) g) c es) ≡ length es * size = rw (s, e, m) (z .bytes) in
+    let f : length es * size ≤ most * size = mul-le-mul h (omega arith) in
+    room-fewer (length es) most (length (entriesBytes (kindAt (imageIn b) g) c es)) (most * size) i j h (omega arith) t
 
 pub class-other : (n c : ℕ) → (n ≡ 0 → ⊥) → c ≡ classAnswered n c
 class-other zero c z = absurd (z refl)
@@ -137,25 +146,28 @@ module _ (x : Image) (g : ℕ) (k : SignalEncoding) (index bytes : List ℕ) (e 
   answer-unknown t f h = rw (unknown-is, ← f, h) refl
 
 -- after a pass that counts
-pub counted-short : (b : List ℕ) (g : ℕ) (k : SignalEncoding) (c : ℕ) (index bytes : List ℕ) (s : Loading) (i j : List ℕ) (t : Bool)
+pub counted-short : (b : List ℕ) (g c : ℕ) (index bytes : List ℕ) (s : Loading) (i j : List ℕ) (t : Bool)
     → outputAs (kindAt (imageIn b) g) b s i j ≡ holding (kindAt (imageIn b) g) c false index bytes (loads g (imageIn b .blocks) .entries)
-    → t ≡ tooShort k c (s .count) (length i) (length j)
-    → (t ≡ tooShort k c (length (loads g (imageIn b .blocks) .entries)) (length index) (length bytes)) × (i ≡ index) × (j ≡ bytes)
-counted-short b g k c index bytes s i j t q f =
+    → t ≡ tooShort (s .count) (s .used) (length i) (length j)
+    → (t ≡ tooShort (length (loads g (imageIn b .blocks) .entries)) (length (entriesBytes (kindAt (imageIn b) g) c (loads g (imageIn b .blocks) .entries))) (length index) (length bytes))
+    × (i ≡ index) × (j ≡ bytes)
+counted-short b g c index bytes s i j t q f =
     let n : s .count ≡ length (loads g (imageIn b .blocks) .entries) = ap (λ (o : Output). o .count) q in
+    let u : s .used ≡ length (entriesBytes (kindAt (imageIn b) g) c (loads g (imageIn b .blocks) .entries)) = ap (λ (o : Output). o .used) q in
     let p : i ≡ index = ap (λ (o : Output). o .index) q in
     let r : j ≡ bytes = ap (λ (o : Output). o .bytes) q in
-    (f ∙ rw (n, p, r) refl, p, r)
+    (f ∙ rw (n, u, p, r) refl, p, r)
 
 -- after the test of the outputs, in the class c of the blocks
 module _ (b : List ℕ) (g : ℕ) (k : SignalEncoding) (index bytes : List ℕ) (c : ℕ) (i j : List ℕ) (e : k ≡ kindAt (imageIn b) g) (z : Sized b g)
     (m : c ≡ loads g (imageIn b .blocks) .class) (same-index : i ≡ index) (same-bytes : j ≡ bytes) (u : Bool) (a : u ≡ absent k) (d : u ≡ false)
-    (t : Bool) (f : t ≡ tooShort k c (length (loads g (imageIn b .blocks) .entries)) (length index) (length bytes)) where
+    (t : Bool)
+    (f : t ≡ tooShort (length (loads g (imageIn b .blocks) .entries)) (length (entriesBytes (kindAt (imageIn b) g) c (loads g (imageIn b .blocks) .entries))) (length index) (length bytes)) where
   abbrev l : Load
   l = loads g (imageIn b .blocks)
 
   test : (ltb (length index) (length (l .entries)) || ltb (length bytes) (length (entriesBytes (kindAt (imageIn b) g) (signalClass l) (l .entries)))) ≡ t
-  test = rw (z .same, z .bytes, ← m, ← e) (sym f)
+  test = rw (z .same, ← m) (sym f)
 
   here : unknownSignal (imageIn b) g ≡ false
   here = unknown-is (imageIn b) g k index bytes e ∙ sym a ∙ d
@@ -166,8 +178,7 @@ module _ (b : List ℕ) (g : ℕ) (k : SignalEncoding) (index bytes : List ℕ) 
 
   pub room-all : t ≡ false → Room true (holding (kindAt (imageIn b) g) c true i j (l .entries)) (length i) (length j)
   room-all h =
-      let q = room-of k c (length (l .entries)) (length index) (length bytes) (sym f ∙ h) in
-      let s : length (entriesBytes (kindAt (imageIn b) g) c (l .entries)) ≡ length (l .entries) * entryLength k c = rw (m, e) (z .bytes) in
+      let q = room-of (length (l .entries)) (length (entriesBytes (kindAt (imageIn b) g) c (l .entries))) (length index) (length bytes) (sym f ∙ h) in
       λ w. (omega (arith, q .0, ap length same-index), omega (arith, q .1, ap length same-bytes))
 
   pub answer-loaded : (s : Loading) (n : ℕ) (i' j' : List ℕ) → t ≡ false → n ≡ classAnswered (s .count) c

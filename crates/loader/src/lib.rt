@@ -1,10 +1,7 @@
 // Loading one signal of an accepted image: document 01, 'Loaded signal', after wellen's load_signal.
 //
 // Blocks in order, one output for all, so repeats are dropped across blocks too. How long the signal's streams are bounds its entries
-// (measure.rt), so outputs with room for that many are written in one pass over the changes. Others are counted first: the same loops
-// count and write, so that 9 is decided before the first byte is written. A block's changes make of the outputs what `allTaken` says
-// (specs/Output.antt); proofs/OutputLaws holds it against `pushed` of the crate loaded.
+// (crate `loader_measure`), so outputs with room for that many are written in one pass over the changes. Others are counted first: the
+// same loops count and write (crate `loader_block`), so that 9 is decided before the first byte is written.
 pub mod blocks;
-pub mod changes;
 pub mod load;
-pub mod measure;

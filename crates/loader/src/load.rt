@@ -1,40 +1,32 @@
 // One signal of an accepted image: the refusals 4 and 9, or its kept entries.
 use crate::blocks::load_blocks;
-use crate::measure::least_len;
-use crate::measure::measure_blocks;
 use entry::length::entry_len;
 use loaded::LoadAnswer;
+use loader_measure::least_len;
+use loader_measure::measure_blocks;
 use signal::kind::SignalEncoding;
 use value::states::States;
 use walk::head::kind_at;
 ghost use mathlib.Core.Path.{_≡_};
-ghost use mathlib.Core.Bool.{true};
 ghost use Prim.Native.Nat.{_≤_};
 ghost use lib.ListN.{length};
 ghost use Rattle.value.specs.Class.{classNumber};
-ghost use Rattle.signal.specs.Kind.{knownKind};
 ghost use Rattle.image.specs.Head.{imageLimit};
 ghost use Rattle.loaded.specs.Opener.{kindAt};
 ghost use Rattle.loaded.specs.Loading.{loads};
+ghost use Rattle.loaded.specs.EntryBytes.{entriesBytes};
 ghost use Rattle.loaded.specs.Reader.{loadReply, loadAfter, loadIn};
 ghost use Rattle.walk.specs.Walk.{Opened, imageIn};
 ghost use Rattle.loader.specs.Sizes.{tooShort, classAnswered};
 
-// Whether so many indices and bytes are too few for so many entries.
-fn too_short(
-    kind: SignalEncoding,
-    class: States,
-    entries: usize,
-    indices: usize,
-    room: usize,
-) -> bool
-    requires { ⌜ (entries ≤ imageLimit) × (knownKind kind ≡ true) ⌝ }
-    ensures { λ r. ⌜ r ≡ tooShort kind (classNumber class) entries indices room ⌝ }
+// Whether so many indices and bytes are too few for so many entries, of so many bytes.
+fn too_short(entries: usize, used: usize, indices: usize, room: usize) -> bool
+    ensures { λ r. ⌜ r ≡ tooShort entries used indices room ⌝ }
 {
     if indices < entries {
         return true;
     }
-    room < entries * entry_len(kind, class)
+    room < used
 }
 
 // The signal's class: the largest of its blocks, Nine if it has no changes.
@@ -47,8 +39,8 @@ fn signal_class(count: u32, class: States) -> States
     class
 }
 
-// Whether the outputs are too short for a signal's kept entries, of which there are at most `most`. Only where these might not fit a pass
-// counts them; it writes nothing.
+// Whether the outputs are too short for a signal's kept entries, of which there are at most `most`. Only where these might not fit, every
+// entry being as long, a pass counts the entries and their bytes; it writes nothing.
 fn lacks_room(
     image: &[u8],
     signal: u32,
@@ -60,16 +52,16 @@ fn lacks_room(
 ) -> bool
     requires { ⌜ Opened (now image) × (kind ≡ kindAt (imageIn (now image)) signal) × (classNumber class ≡ loads signal (imageIn (now image) .blocks) .class) ⌝ }
     requires { ⌜ (length (loads signal (imageIn (now image) .blocks) .entries) ≤ most) × (most ≤ imageLimit) ⌝ }
-    ensures { λ r. ⌜ (r ≡ tooShort kind (classNumber class) (length (loads signal (imageIn (now (image .entry)) .blocks) .entries)) (length (now (index .entry))) (length (now (bytes .entry)))) × (now (index .exit) ≡ now (index .entry)) × (now (bytes .exit) ≡ now (bytes .entry)) ⌝ }
+    ensures { λ r. ⌜ (r ≡ tooShort (length (loads signal (imageIn (now (image .entry)) .blocks) .entries)) (length (entriesBytes (kindAt (imageIn (now (image .entry))) signal) (classNumber class) (loads signal (imageIn (now (image .entry)) .blocks) .entries))) (length (now (index .entry))) (length (now (bytes .entry)))) × (now (index .exit) ≡ now (index .entry)) × (now (bytes .exit) ≡ now (bytes .entry)) ⌝ }
 {
-    if !too_short(kind, class, most, index.len(), bytes.len()) {
+    let size = entry_len(kind, class);
+    if !too_short(most, most * size, index.len(), bytes.len()) {
         return false;
     }
     let counted = load_blocks(image, signal, class, false, index, bytes);
     too_short(
-        kind,
-        class,
         counted.count as usize,
+        counted.used,
         index.len(),
         bytes.len(),
     )

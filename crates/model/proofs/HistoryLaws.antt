@@ -17,6 +17,8 @@ use Rattle.signal.specs.declared.kind.SignalEncoding.the-variants.{Absent}
 use Rattle.signal.specs.Content.{Content, Given, Decoded, refuse, accept, decode}
 use Rattle.codec.specs.Valid.{RisingFrom, Rising}
 use Rattle.recording.specs.Calls.{Call, time, change, finish, Way, above, equal, below, wayOf, counted}
+use Rattle.recording.specs.State.{probeSkip, skipBegun, skipEnded, skipCounted}
+use Rattle.recording.specs.declared.ProbeSkip.{ProbeSkip}
 use Rattle.history.specs.History.{History, noHistory, tellTime, tellChange, tell, tellAll}
 use Rattle.loaded.specs.Loading.{overlap, joinTimes}
 use Rattle.loaded.proofs.TableLaws.{joined-length}
@@ -29,8 +31,7 @@ all p = join (joined noChunk (p .blocks)) (p .now)
 
 pub record Same (p : Model) (h : History) : Type 0 where
   pub held : all p ≡ told h
-  pub skip : p .skip ≡ h .skip
-  pub count : p .count ≡ h .count
+  pub skips : p .skips ≡ h .skips
   pub first : length (p .now .times) ≡ 0 → (p .blocks ≡ []) × (p .now .changes ≡ [])
   pub shut : p .closed ≡ true → joined noChunk (p .blocks) ≡ told h
 
@@ -68,14 +69,14 @@ join-times : (l b : Chunk) → join l b .times ≡ joinTimes (l .times) (b .time
 unfolding join
 join-times l b = refl
 
-all-cut : (p : Model) (ts : List ℕ) (s : Bool) (n : ℕ) (c : Bool) → 0 < length (p .now .times)
-    → all (model (p .blocks ++ p .now ∷ []) (chunk (lastOr 0 (p .now .times) ∷ ts) []) s n c) ≡ chunk (all p .times ++ ts) (all p .changes)
+all-cut : (p : Model) (ts : List ℕ) (k : ProbeSkip) (c : Bool) → 0 < length (p .now .times)
+    → all (model (p .blocks ++ p .now ∷ []) (chunk (lastOr 0 (p .now .times) ∷ ts) []) k c) ≡ chunk (all p .times ++ ts) (all p .changes)
 unfolding joined
-all-cut p ts s n c h = rw joined-append (add-cut (joined noChunk (p .blocks)) (p .now) ts h)
+all-cut p ts k c h = rw joined-append (add-cut (joined noChunk (p .blocks)) (p .now) ts h)
 
 all-timed : (p : Model) (t : ℕ) (b : Bool) → 0 < length (p .now .times) → all (timed (pick b (cut p) p) t) ≡ chunk (all p .times ++ t ∷ []) (all p .changes)
 unfolding cut
-all-timed p t true h = all-cut p (t ∷ []) false (p .count) (p .closed) h
+all-timed p t true h = all-cut p (t ∷ []) (skipEnded (p .skips)) (p .closed) h
 all-timed p t false h = add-time (joined noChunk (p .blocks)) (p .now) t h
 
 -- ---- a time
@@ -100,10 +101,10 @@ way-same p h t s = go (ℕ-discrete (length (p .now .times)) 0)
         let q : 0 < length (joinTimes (l .times) (p .now .times)) = omega arith in
         way-last (p .now .times) (joinTimes (l .times) (p .now .times)) t k q (sym (join-last 0 (l .times) (p .now .times) k)) ∙ ap (λ (b : List ℕ). wayOf b t) j
 
-pick-count : (p : Model) (b : Bool) → pick b (cut p) p .count ≡ p .count
+pick-skips : (p : Model) (b : Bool) → pick b (cut p) p .skips ≡ p .skips
 unfolding cut
-pick-count p true = refl
-pick-count p false = refl
+pick-skips p true = refl
+pick-skips p false = refl
 
 -- a recording that is not closed
 never : (p : Model) (b : Bool) {X : Type 0} → p .closed ≡ false → pick b (cut p) p .closed ≡ true → X
@@ -113,12 +114,11 @@ never p false e f = let z : _≡_ {A = ℕ} 0 1 = cc in absurd (omega arith)
 
 time-same : (limit : ℕ) (p : Model) (h : History) (t : ℕ) (way : Way) → 0 < limit → p .closed ≡ false → Same p h
     → Same (modelTime limit p t way) (tellTime h t way .next)
-unfolding modelTime
+unfolding modelTime skipBegun skipEnded
 time-same limit p h t above pos up s =
     record {
       held = go (ℕ-discrete (length (p .now .times)) 0);
-      skip = refl;
-      count = pick-count p (eqb (length (p .now .times)) limit) ∙ s .count;
+      skips = ap (λ (k : ProbeSkip). probeSkip false (k .count)) (pick-skips p (eqb (length (p .now .times)) limit) ∙ s .skips);
       first = λ e. absurd (omega (arith, simp length-append at e));
       shut = never p (eqb (length (p .now .times)) limit) up;
     }
@@ -136,22 +136,21 @@ time-same limit p h t above pos up s =
         let k : 0 < length (p .now .times) = omega arith in
         all-timed p t b k ∙ ap (λ (x : Chunk). chunk (x .times ++ t ∷ []) (x .changes)) (s .held)
 time-same limit p h t equal pos up s = s
-time-same limit p h t below pos up s = record { held = s .held; skip = refl; count = s .count; first = s .first; shut = s .shut }
+time-same limit p h t below pos up s = record { held = s .held; skips = ap (λ (k : ProbeSkip). probeSkip true (k .count)) (s .skips); first = s .first; shut = s .shut }
 
 -- ---- a change, a finish
 
 change-same : (p : Model) (h : History) (g : ℕ) (b : Bool) (d : Decoded) → 0 < length (p .now .times) → p .closed ≡ false → Same p h
     → Same (modelChange p g b d) (tellChange h g b d .next)
-unfolding modelChange
-change-same p h g true d k up s = record { held = s .held; skip = refl; count = ap counted (s .count); first = s .first; shut = s .shut }
+unfolding modelChange skipCounted
+change-same p h g true d k up s = record { held = s .held; skips = ap (λ (n : ProbeSkip). probeSkip (n .on) (counted (n .count))) (s .skips); first = s .first; shut = s .shut }
 change-same p h g false (refuse n) k up s = s
 change-same p h g false (accept a c) k up s =
     record {
       held =
           add-change (joined noChunk (p .blocks)) (p .now) g a c k
           ∙ ap (λ (x : Chunk). chunk (x .times) (x .changes ++ record { signal = g; place = length (x .times) - 1; content = a; class = c } ∷ [])) (s .held);
-      skip = refl;
-      count = s .count;
+      skips = s .skips;
       first = λ e. absurd (omega arith);
       shut = λ e. let z : _≡_ {A = ℕ} 0 1 = cc in absurd (omega arith);
     }
@@ -164,13 +163,12 @@ close-same p h s = go (p .now .times) refl
     go [] e =
         let f = s .first (ap length e) in
         let z : joined noChunk (p .blocks) ≡ all p = rw (f .0, f .1, e) refl in
-        record { held = s .held; skip = s .skip; count = s .count; first = s .first; shut = λ c. z ∙ s .held }
+        record { held = s .held; skips = s .skips; first = s .first; shut = λ c. z ∙ s .held }
     go (x ∷ l) e =
         let k : 0 < length (p .now .times) = rw e (omega arith) in
         record {
-          held = all-cut p [] (p .skip) (p .count) true k ∙ rw append-nil (s .held);
-          skip = s .skip;
-          count = s .count;
+          held = all-cut p [] (p .skips) true k ∙ rw append-nil (s .held);
+          skips = s .skips;
           first = λ z. absurd (omega arith);
           shut = λ c. joined-append noChunk (p .blocks) (p .now ∷ []) ∙ s .held;
         }
@@ -186,13 +184,13 @@ step-same ks limit p h (time t) false pos up fine s =
     subst (λ (w : Way). Same (modelTime limit p t w) (tellTime h t (wayOf (h .times) t) .next)) (sym (way-same p h t s))
     (time-same limit p h t (wayOf (h .times) t) pos (up refl) s)
 step-same ks limit p h (change g v) false pos up fine s =
-    subst (λ (b : Bool). Same (modelChange p g b (decode (getD ks g Absent) v)) (tellChange h g (h .skip) (decode (getD ks g Absent) v) .next)) (sym (s .skip))
-    (change-same p h g (h .skip) (decode (getD ks g Absent) v) (fine refl g v refl) (up refl) s)
+    subst (λ (k : ProbeSkip). Same (modelChange p g (k .on) (decode (getD ks g Absent) v)) (tellChange h g (h .skips .on) (decode (getD ks g Absent) v) .next)) (sym (s .skips))
+    (change-same p h g (h .skips .on) (decode (getD ks g Absent) v) (fine refl g v refl) (up refl) s)
 step-same ks limit p h finish false pos up fine s = close-same p h s
 
 pub start-same : Same noModel noHistory
 unfolding join joined shifts
-start-same = record { held = refl; skip = refl; count = refl; first = λ e. (refl, refl); shut = λ e. refl }
+start-same = record { held = refl; skips = refl; first = λ e. (refl, refl); shut = λ e. refl }
 
 -- ---- the times of a history rise strictly
 
@@ -225,7 +223,7 @@ tell-rising : (ks : List SignalEncoding) (h : History) (c : Call) (b : Bool) →
 unfolding tell
 tell-rising ks h c true r = r
 tell-rising ks h (time t) false r = time-rising h t (wayOf (h .times) t) refl r
-tell-rising ks h (change g v) false r = change-rising h g (h .skip) (decode (getD ks g Absent) v) r
+tell-rising ks h (change g v) false r = change-rising h g (h .skips .on) (decode (getD ks g Absent) v) r
 tell-rising ks h finish false r = r
 
 pub history-rising : (ks : List SignalEncoding) (cs : List Call) (h : History) (rs : List Bool) → Rising (h .times) → Rising (tellAll ks h cs rs .last .times)

@@ -23,6 +23,7 @@ use Rattle.image.specs.Block.{Part, Block, part, block}
 use Rattle.codec.specs.Valid.{RisingFrom, Rising, EntriesFit, OptionFits, BlockFits}
 use Rattle.codec.proofs.Growth.{parts-each, parts-count}
 use Rattle.recording.specs.Calls.{Call, time, change, finish, above, wayOf}
+use Rattle.recording.specs.State.{noSkips, skipEnded}
 use Rattle.history.specs.History.{Change, listOf, topOf}
 use Rattle.model.specs.Model.{Chunk, chunk, Model, model, noModel, modelTime, modelChange, modelStep, tab, partWith, storedOf, imageOf}
 use Rattle.model.proofs.LoadLaws.{pick-append}
@@ -292,7 +293,7 @@ tab-self (p ∷ ps) d = ap (λ l. p ∷ l) (tab-shift 0 (length ps) (λ (g : ℕ
 module _ (limit : ℕ) (ks : List SignalEncoding) where
   abbrev pub Proper : Model → Call → Type 0
   Proper p (time t) = Unit {0}
-  Proper p (change g v) = (p .skip ≡ false) × (0 < length (p .now .times)) × ((a : Content) × (c : ℕ) × (decode (getD ks g Absent) v ≡ accept a c))
+  Proper p (change g v) = (p .skips .on ≡ false) × (0 < length (p .now .times)) × ((a : Content) × (c : ℕ) × (decode (getD ks g Absent) v ≡ accept a c))
   Proper p finish = Unit {0}
 
   unfoldable pub modelRun : Model → List Call → Model
@@ -327,7 +328,7 @@ module _ (limit : ℕ) (ks : List SignalEncoding) where
 
   -- a model that is open and not skipping
   abbrev pub live : List Chunk → List ℕ → List Change → Model
-  live bs ts cs = model bs (chunk ts cs) false 0 false
+  live bs ts cs = model bs (chunk ts cs) noSkips false
 
   -- what can be said: entries at an index that fit, with a class that the kind can have
   abbrev AllAt : ℕ → List Entry → Type 0
@@ -393,7 +394,7 @@ module _ (limit : ℕ) (ks : List SignalEncoding) where
 
   time-take : (bs : List Chunk) (ts : List ℕ) (cs : List Change) (t : ℕ) → 0 < length ts → length ts < limit → lastOr 0 ts < t
       → modelStep ks limit (live bs ts cs) (time t) false ≡ live bs (ts ++ t ∷ []) cs
-  unfolding modelStep modelTime
+  unfolding modelStep modelTime skipEnded
   time-take bs ts cs t h l m =
       let n : length ts ≡ limit → ⊥ = λ e. omega arith in
       ap (modelTime limit (live bs ts cs) t) (way-take ts t h m) ∙ rw (ne-eqb (length ts) limit n) refl
@@ -471,7 +472,7 @@ module _ (limit : ℕ) (ks : List SignalEncoding) where
 
   first-take : (s : Block (List Entry)) (times : List ℕ) → 0 < limit → 1 ≤ length times → Rising times → length times ≤ limit → SaidAll 0 (bares (s .parts))
       → Takes noModel (firstCalls ks times (bares (s .parts))) (live [] times (blockMarks 0 (drop 1 times) (bares (s .parts))))
-  unfolding firstCalls modelStep modelTime wayOf
+  unfolding firstCalls modelStep modelTime wayOf skipEnded
   first-take s [] pos one r f v = absurd (omega arith)
   first-take s (t ∷ us) pos one r f v =
       let n : 0 ≡ limit → ⊥ = λ z. omega arith in

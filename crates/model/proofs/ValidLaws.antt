@@ -21,7 +21,9 @@ use Rattle.image.specs.Block.{Part, Block}
 use Rattle.codec.specs.Valid.{Rising, EachBelow, EntryFits, EntriesFit, OptionFits, Starts, BlockFits, BlocksFit}
 use Rattle.codec.specs.Ends.{endAfter, lastIndex}
 use Rattle.codec.proofs.Growth.{entries-more, entries-wider, each-parts, blocks-join}
-use Rattle.recording.specs.Calls.{Call, time, change, finish, ValueFits, CallFits, Way, above, equal, below, wayOf, counted}
+use Rattle.recording.specs.Calls.{Call, time, change, finish, ValueFits, CallFits, Way, above, equal, below, wayOf}
+use Rattle.recording.specs.State.{skipBegun, skipCounted}
+use Rattle.recording.specs.declared.ProbeSkip.{ProbeSkip}
 use Rattle.history.specs.History.{Change, listOf, topOf}
 use Rattle.model.specs.Model.{Chunk, Model, model, noModel, cut, timed, modelTime, modelChange, close, noTime, modelStep, tab, partWith, storedOf, imageOf}
 use Rattle.model.proofs.LoadLaws.{list-append, top-append, stored-part}
@@ -211,8 +213,8 @@ module _ (limit : ℕ) (ks : List SignalEncoding) where
             record { entries = tt; most = subst (λ (c : List Change). topOf g c ≤ topLimit (getD ks g Absent)) (sym s) (f .most) };
       }
 
-  skip-well : (p : Model) (s : Bool) (n : ℕ) (c : Bool) → Well p → Well (model (p .blocks) (p .now) s n c)
-  skip-well p s n c w = record { done = w .done; room = w .room; starts = w .starts; rising = w .rising; small = w .small; signals = w .signals }
+  skip-well : (p : Model) (k : ProbeSkip) (c : Bool) → Well p → Well (model (p .blocks) (p .now) k c)
+  skip-well p k c w = record { done = w .done; room = w .room; starts = w .starts; rising = w .rising; small = w .small; signals = w .signals }
 
   time-well : (p : Model) (t : ℕ) (way : Way) → 2 ≤ limit → t < 2 ^ 64 → wayOf (p .now .times) t ≡ way → First p → Well p → Well (modelTime limit p t way)
   unfolding modelTime
@@ -227,7 +229,7 @@ module _ (limit : ℕ) (ks : List SignalEncoding) where
           below-limit : length (p .now .times) ≤ limit → (length (p .now .times) ≡ limit → ⊥) → length (p .now .times) < limit
           below-limit r n = omega arith
   time-well p t equal two small e first w = w
-  time-well p t below two small e first w = skip-well p true (p .count) (p .closed) w
+  time-well p t below two small e first w = skip-well p (skipBegun (p .skips)) (p .closed) w
 
   -- ---- a change
 
@@ -269,7 +271,7 @@ module _ (limit : ℕ) (ks : List SignalEncoding) where
   change-well : (p : Model) (g : ℕ) (b : Bool) (v : Given) (d : Decoded) → GivenFits v → decode (getD ks g Absent) v ≡ d → 0 < length (p .now .times)
       → Well p → Well (modelChange p g b d)
   unfolding modelChange
-  change-well p g true v d fit e h w = skip-well p true (counted (p .count)) (p .closed) w
+  change-well p g true v d fit e h w = skip-well p (skipCounted (p .skips)) (p .closed) w
   change-well p g false v (refuse n) fit e h w = w
   change-well p g false v (accept a c) fit e h w = record {
     done = w .done;
@@ -337,8 +339,8 @@ step-good limit ks p (time t) false two fit up fine first w =
     (time-well limit ks p t (wayOf (p .now .times) t) two fit refl first (w .well (up refl)))
 step-good limit ks p (change g v) false two fit up fine first w =
     let d : Decoded = decode (getD ks g Absent) v in
-    good-open limit ks (modelChange p g (p .skip) d) (change-open p g (p .skip) d ∙ up refl)
-    (change-well limit ks p g (p .skip) v d (value-given v (fit .1)) refl (fine refl g v refl) (w .well (up refl)))
+    good-open limit ks (modelChange p g (p .skips .on) d) (change-open p g (p .skips .on) d ∙ up refl)
+    (change-well limit ks p g (p .skips .on) v d (value-given v (fit .1)) refl (fine refl g v refl) (w .well (up refl)))
 step-good limit ks p finish false two fit up fine first w = record {
   well = λ q. let z : _≡_ {A = ℕ} 0 1 = cc in absurd (omega arith);
   shut = λ q. closed-fits limit ks p first (w .well (up refl));

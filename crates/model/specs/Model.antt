@@ -14,7 +14,9 @@ use Rattle.signal.specs.declared.kind.SignalEncoding.the-variants.{Absent}
 use Rattle.signal.specs.Content.{Decoded, refuse, accept, decode}
 use Rattle.stream.specs.Entries.{Entry}
 use Rattle.image.specs.Block.{Part, Block, part, block}
-use Rattle.recording.specs.Calls.{Call, time, change, finish, Way, above, equal, below, wayOf, counted}
+use Rattle.recording.specs.Calls.{Call, time, change, finish, Way, above, equal, below, wayOf}
+use Rattle.recording.specs.State.{noSkips, skipBegun, skipEnded, skipCounted}
+use Rattle.recording.specs.declared.ProbeSkip.{ProbeSkip}
 use Rattle.history.specs.History.{Change, History, listOf, topOf}
 use Rattle.loaded.specs.Loading.{overlap, joinTimes}
 
@@ -51,38 +53,37 @@ joined l (b ∷ bs) = joined (join l b) bs
 pub record Model : Type 0 where
   pub blocks : List Chunk
   pub now : Chunk
-  pub skip : Bool
-  pub count : ℕ
+  pub skips : ProbeSkip
   pub closed : Bool
 
-abbrev pub model : List Chunk → Chunk → Bool → ℕ → Bool → Model
-model bs o s n c = record { blocks = bs; now = o; skip = s; count = n; closed = c }
+abbrev pub model : List Chunk → Chunk → ProbeSkip → Bool → Model
+model bs o k c = record { blocks = bs; now = o; skips = k; closed = c }
 
 abbrev pub noModel : Model
-noModel = model [] noChunk false 0 false
+noModel = model [] noChunk noSkips false
 
 -- the open block is finished; the next table begins with the last time
 unfoldable pub cut : Model → Model
-cut p = model (p .blocks ++ p .now ∷ []) (chunk (lastOr 0 (p .now .times) ∷ []) []) (p .skip) (p .count) (p .closed)
+cut p = model (p .blocks ++ p .now ∷ []) (chunk (lastOr 0 (p .now .times) ∷ []) []) (p .skips) (p .closed)
 
 abbrev pub timed : Model → ℕ → Model
-timed p t = model (p .blocks) (chunk (p .now .times ++ t ∷ []) (p .now .changes)) false (p .count) (p .closed)
+timed p t = model (p .blocks) (chunk (p .now .times ++ t ∷ []) (p .now .changes)) (skipEnded (p .skips)) (p .closed)
 
 unfoldable pub modelTime : (limit : ℕ) → Model → ℕ → Way → Model
 modelTime limit p t above = timed (pick (eqb (length (p .now .times)) limit) (cut p) p) t
 modelTime limit p t equal = p
-modelTime limit p t below = model (p .blocks) (p .now) true (p .count) (p .closed)
+modelTime limit p t below = model (p .blocks) (p .now) (skipBegun (p .skips)) (p .closed)
 
 unfoldable pub modelChange : Model → (signal : ℕ) → (skip : Bool) → Decoded → Model
-modelChange p g true d = model (p .blocks) (p .now) true (counted (p .count)) (p .closed)
+modelChange p g true d = model (p .blocks) (p .now) (skipCounted (p .skips)) (p .closed)
 modelChange p g false (refuse n) = p
 modelChange p g false (accept a c) =
     model (p .blocks)
     (chunk (p .now .times) (p .now .changes ++ record { signal = g; place = length (p .now .times) - 1; content = a; class = c } ∷ []))
-    false (p .count) (p .closed)
+    (p .skips) (p .closed)
 
 abbrev pub close : Model → Model
-close p = model (p .blocks) (p .now) (p .skip) (p .count) true
+close p = model (p .blocks) (p .now) (p .skips) true
 
 abbrev pub noTime : List ℕ → Bool
 noTime [] = true
@@ -91,7 +92,7 @@ noTime (t ∷ ts) = false
 unfoldable pub modelStep : List SignalEncoding → (limit : ℕ) → Model → Call → (refused : Bool) → Model
 modelStep ks limit p c true = p
 modelStep ks limit p (time t) false = modelTime limit p t (wayOf (p .now .times) t)
-modelStep ks limit p (change g v) false = modelChange p g (p .skip) (decode (getD ks g Absent) v)
+modelStep ks limit p (change g v) false = modelChange p g (p .skips .on) (decode (getD ks g Absent) v)
 modelStep ks limit p finish false = close (pick (noTime (p .now .times)) p (cut p))
 
 -- ---- the image of finished blocks

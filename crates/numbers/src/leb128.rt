@@ -1,4 +1,5 @@
 // Unsigned LEB128 (DWARF) of 32-bit numbers, in its shortest form.
+use crate::wide;
 ghost use mathlib.Core.Path.{_≡_};
 ghost use Prim.Native.Nat.{_+_, _≤_, _<_};
 ghost use lib.ListN.{length, drop};
@@ -9,12 +10,6 @@ ghost use Rattle.numbers.specs.Leb128.{lebOf, lebAt, readLeb, above, und
 pub enum Leb128 {
     Value(u32, usize),
     Bad,
-}
-
-fn wide(x: u8) -> u32
-    ensures { λ r. ⌜ r ≡ x ⌝ }
-{
-    x as u32
 }
 
 // How many bytes the form of v has.

@@ -4,3 +4,12 @@
 // and writing are inverse is proved in proofs/Leb128Trip.antt and proofs/LittleEndianLaws.antt.
 pub mod leb128;
 pub mod little_endian;
+
+ghost use mathlib.Core.Path.{_≡_};
+
+// A byte as a number with room above it.
+pub fn wide(x: u8) -> u32
+    ensures { λ r. ⌜ r ≡ x ⌝ }
+{
+    x as u32
+}

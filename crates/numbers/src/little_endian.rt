@@ -1,15 +1,10 @@
 // Little-endian integers of four and eight bytes.
+use crate::wide;
 ghost use mathlib.Core.Path.{_≡_};
 ghost use Prim.Native.Nat.{_+_, _≤_};
 ghost use lib.ListN.{length, take, drop};
 ghost use lib.Seq.{sets};
 ghost use Rattle.numbers.specs.LittleEndian.{le, unle};
-
-fn wide(x: u8) -> u64
-    ensures { λ r. ⌜ r ≡ x ⌝ }
-{
-    x as u64
-}
 
 // Writes the w lowest bytes of v from at on, lowest first, and answers the place after them.
 fn put_le(buf: &mut [u8], at: usize, w: usize, v: u64) -> usize
@@ -35,7 +30,7 @@ fn get_le(s: &[u8], at: usize, w: usize) -> u64
     let mut i = w;
     while 0 < i {
         i -= 1;
-        v = v * 256 + wide(s[at + i]);
+        v = v * 256 + wide(s[at + i]) as u64;
     }
     v
 }

@@ -61,7 +61,8 @@ module _ (b : List ℕ) (y : Bytes b) where
       by : (g : Got Numbers) → numbersForm .get b ≡ g → g ≡ bad
       by bad e = refl
       by (got x r) e =
-          let w = pair-laws (uint 4) (pair (uint 4) (pair (uint 4) (uint 4))) (uint-laws 4) (pair-laws (uint 4) (pair (uint 4) (uint 4)) (uint-laws 4) (pair-laws (uint 4) (uint 4) (uint-laws 4) (uint-laws 4))) .back b x r y e in
+          let w = pair-laws (uint 4) (pair (uint 4) (pair (uint 4) (uint 4))) (uint-laws 4)
+          (pair-laws (uint 4) (pair (uint 4) (uint 4)) (uint-laws 4) (pair-laws (uint 4) (uint 4) (uint-laws 4) (uint-laws 4))) .back b x r y e in
           let p = le 4 (x .1 .1 .0) ++ le 4 (x .1 .1 .1) in
           let q = le 4 (x .1 .0) ++ p in
           absurd (omega (
@@ -81,7 +82,8 @@ module _ (b : List ℕ) (y : Bytes b) where
   by-known true ks q r = refl
   by-known false ks q r = refl
 
-  head-get : headForm .get b ≡ pick (leb 16 (length b)) (pick (leb (16 + 4 * numberIn b 0) (length b)) (pick (knownAt (numberIn b 0) b 16) (got (headIn b) (drop (16 + 4 * numberIn b 0) b)) bad) bad) bad
+  head-get : headForm .get b ≡ pick (leb 16 (length b))
+      (pick (leb (16 + 4 * numberIn b 0) (length b)) (pick (knownAt (numberIn b 0) b 16) (got (headIn b) (drop (16 + 4 * numberIn b 0) b)) bad) bad) bad
   unfolding headForm
   head-get = by (leb 16 (length b)) refl (leb (16 + 4 * numberIn b 0) (length b)) refl
     where
@@ -98,7 +100,8 @@ module _ (b : List ℕ) (y : Bytes b) where
           ∙ by-known (knownAt (numberIn b 0) b 16) (kindsAt (numberIn b 0) b 16) (drop (16 + 4 * numberIn b 0) b) (numbersAt b)
       by true e false f =
           ap (λ (g : Got Numbers). andThen g (λ r q. andThen (repeat (r .0) kindForm .get q) (λ ks t. gotIf (some (headFrom r ks)) t))) (numbers-there (leb-true 16 (length b) e))
-          ∙ ap (λ (g : Got (List SignalEncoding)). andThen g (λ ks t. gotIf (some (headFrom (numbersAt b) ks)) t)) (kinds-short (numberIn b 0) b 16 (leb-true 16 (length b) e) (leb-false (16 + 4 * numberIn b 0) (length b) f))
+          ∙ ap (λ (g : Got (List SignalEncoding)). andThen g (λ ks t. gotIf (some (headFrom (numbersAt b) ks)) t))
+          (kinds-short (numberIn b 0) b 16 (leb-true 16 (length b) e) (leb-false (16 + 4 * numberIn b 0) (length b) f))
 
 -- ---- the blocks fill the total
 
@@ -171,7 +174,9 @@ walk-is b y = ap (λ (g : Got Head). isSome (ended (andThen (andThen g (λ h r. 
         ≡ (t && ((leb 2 (numberIn b 4) && (leb (numberIn b 4) 65535 && (leb (numberIn b 0) 65536 && (leb (numberIn b 12) imageLimit && (u && eqb (numberIn b 12) (length b)))))) && k)) && W
     by false u e k = refl
     by true false e k = no-room (leb 2 (numberIn b 4)) (leb (numberIn b 4) 65535) (leb (numberIn b 0) 65536) (leb (numberIn b 12) imageLimit) (eqb (numberIn b 12) (length b)) k W
-    by true true e false = not-known (leb 2 (numberIn b 4) && (leb (numberIn b 4) 65535 && (leb (numberIn b 0) 65536 && (leb (numberIn b 12) imageLimit && (true && eqb (numberIn b 12) (length b)))))) W
+    by true true e false =
+        not-known (leb 2 (numberIn b 4) &&
+        (leb (numberIn b 4) 65535 && (leb (numberIn b 0) 65536 && (leb (numberIn b 12) imageLimit && (true && eqb (numberIn b 12) (length b)))))) W
     by true true e true =
         let h = leb-true (16 + 4 * numberIn b 0) (length b) e in
         let c = kinds-length (numberIn b 0) b 16 in

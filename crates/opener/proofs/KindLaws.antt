@@ -15,7 +15,7 @@ use Rattle.lists.specs.Got.{Got, bad, got}
 use Rattle.signal.specs.declared.kind.SignalEncoding.{SignalEncoding}
 use Rattle.signal.specs.declared.kind.SignalEncoding.the-variants.{BitVector, Real, Absent}
 use Rattle.signal.specs.Kind.{knownKind}
-use Rattle.storage.specs.Storage.{kindFrom}
+use Rattle.image.specs.Head.{kindFrom}
 use Rattle.form.specs.Form.{andThen, gotIf, repeat}
 use Rattle.codec.specs.ImageForm.{kindOf, kindForm}
 use Rattle.reading.proofs.PlaceLaws.{uint-there, uint-short, repeat-turn, repeat-zero}
@@ -27,7 +27,8 @@ kind-of : (n : ℕ) → kindOf n ≡ pick (knownKind (kindFrom n)) (some (kindFr
 kind-of n = by (leb n 65536) refl (eqb n 0xfffffffe) refl (eqb n 0xffffffff) refl
   where
     by : (a : Bool) → leb n 65536 ≡ a → (b : Bool) → eqb n 0xfffffffe ≡ b → (c : Bool) → eqb n 0xffffffff ≡ c
-        → pick a (some (BitVector n)) (pick b (some Real) (pick c (some Absent) none)) ≡ pick (knownKind (pick c Absent (pick b Real (BitVector n)))) (some (pick c Absent (pick b Real (BitVector n)))) none
+        → pick a (some (BitVector n)) (pick b (some Real) (pick c (some Absent) none)) ≡ pick (knownKind (pick c Absent (pick b Real (BitVector n))))
+        (some (pick c Absent (pick b Real (BitVector n)))) none
     by true p true q c r = let h = leb-true n 65536 p in let k = eqb-true n 0xfffffffe q in absurd (omega arith)
     by true p false q true r = let h = leb-true n 65536 p in let k = eqb-true n 0xffffffff r in absurd (omega arith)
     by true p false q false r = rw p refl

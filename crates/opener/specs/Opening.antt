@@ -12,8 +12,7 @@ use Rattle.signal.specs.declared.kind.SignalEncoding.{SignalEncoding}
 use Rattle.signal.specs.Kind.{knownKind}
 use Rattle.stream.specs.Entries.{Entry}
 use Rattle.image.specs.Block.{Block}
-use Rattle.image.specs.Head.{headSize, imageLimit}
-use Rattle.storage.specs.Storage.{kindFrom}
+use Rattle.image.specs.Head.{headSize, imageLimit, kindFrom}
 use Rattle.codec.specs.Walk.{walkBlocks}
 
 -- a number of the head, by its place

@@ -5,13 +5,25 @@
 // proofs/HeadLaws.antt and proofs/OpenLaws.antt.
 use blocks::NextBlock;
 use blocks::block_at;
+use image::kind::kind_from;
+use image::layout::HEAD_BLOCKS;
+use image::layout::HEAD_KINDS;
+use image::layout::HEAD_LIMIT;
+use image::layout::HEAD_SIGNALS;
+use image::layout::HEAD_TOTAL;
+use image::layout::head_size;
+use image::layout::kind_place;
+use image::limits::MAX_LIMIT;
+use image::limits::MAX_SIGNALS;
+use image::limits::MAX_TOTAL;
+use image::limits::MIN_LIMIT;
 use numbers::little_endian::get_u32;
-use storage::kind_from;
-use storage::known_kind;
+use signal::kind::known_kind;
 ghost use mathlib.Core.Path.{_≡_};
 ghost use mathlib.Core.Option.{none};
-ghost use Prim.Native.Nat.{_+_, _*_, _≤_, _<_};
+ghost use Prim.Native.Nat.{_≤_};
 ghost use lib.ListN.{length};
+ghost use Rattle.image.specs.Head.{headSize};
 ghost use Rattle.loaded.specs.Opener.{openOf};
 ghost use Rattle.parts.specs.Parts.{kindsAt};
 ghost use Rattle.opener.specs.Opening.{numbersFit, knownAt, isHead, blocksFill};
@@ -20,19 +32,19 @@ ghost use Rattle.opener.specs.Opening.{numbersFit, knownAt, isHead, bloc
 fn numbers_fit(len: usize, signals: usize, limit: u32, total: usize) -> bool
     ensures { λ r. ⌜ r ≡ numbersFit len signals limit total ⌝ }
 {
-    if limit < 2 {
+    if limit < MIN_LIMIT {
         return false;
     }
-    if 65535 < limit {
+    if MAX_LIMIT < limit {
         return false;
     }
-    if 65536 < signals {
+    if (MAX_SIGNALS as usize) < signals {
         return false;
     }
-    if 1073741824 < total {
+    if MAX_TOTAL < total {
         return false;
     }
-    if len < 16 + 4 * signals {
+    if len < head_size(signals) {
         return false;
     }
     total == len
@@ -40,12 +52,12 @@ fn numbers_fit(len: usize, signals: usize, limit: u32, total: usize) -> bool
 
 // Whether all of the kinds in a head are known.
 fn kinds_known(image: &[u8], signals: usize) -> bool
-    requires { ⌜ 16 + 4 * signals ≤ length (now image) ⌝ }
+    requires { ⌜ headSize signals ≤ length (now image) ⌝ }
     ensures { λ r. ⌜ r ≡ knownAt signals (now (image .entry)) 16 ⌝ }
 {
     let mut i = 0;
     while i < signals {
-        if !known_kind(kind_from(get_u32(image, 16 + 4 * i))) {
+        if !known_kind(kind_from(get_u32(image, kind_place(i)))) {
             return false;
         }
         i += 1;
@@ -57,12 +69,12 @@ fn kinds_known(image: &[u8], signals: usize) -> bool
 fn is_head(image: &[u8]) -> bool
     ensures { λ r. ⌜ r ≡ isHead (now (image .entry)) ⌝ }
 {
-    if image.len() < 16 {
+    if image.len() < HEAD_KINDS {
         return false;
     }
-    let signals = get_u32(image, 0) as usize;
-    let limit = get_u32(image, 4);
-    let total = get_u32(image, 12) as usize;
+    let signals = get_u32(image, HEAD_SIGNALS) as usize;
+    let limit = get_u32(image, HEAD_LIMIT);
+    let total = get_u32(image, HEAD_TOTAL) as usize;
     if !numbers_fit(image.len(), signals, limit, total) {
         return false;
     }
@@ -71,10 +83,10 @@ fn is_head(image: &[u8]) -> bool
 
 // Whether so many blocks follow the head and fill the image.
 fn blocks_fill(image: &[u8], signals: usize, limit: u32, number: u32) -> bool
-    requires { ⌜ (16 + 4 * signals ≤ length (now image)) × (signals ≤ 65536) × (limit ≤ 65535) ⌝ }
-    ensures { λ r. ⌜ r ≡ blocksFill limit (kindsAt signals (now (image .entry)) 16) number none (now (image .entry)) (16 + 4 * signals) ⌝ }
+    requires { ⌜ (headSize signals ≤ length (now image)) × (signals ≤ 65536) × (limit ≤ 65535) ⌝ }
+    ensures { λ r. ⌜ r ≡ blocksFill limit (kindsAt signals (now (image .entry)) 16) number none (now (image .entry)) (headSize signals) ⌝ }
 {
-    let mut at = 16 + 4 * signals;
+    let mut at = head_size(signals);
     let mut left = number;
     let mut later = false;
     let mut end: u64 = 0;
@@ -103,8 +115,8 @@ pub fn open(image: &[u8]) -> bool
     }
     blocks_fill(
         image,
-        get_u32(image, 0) as usize,
-        get_u32(image, 4),
-        get_u32(image, 8),
+        get_u32(image, HEAD_SIGNALS) as usize,
+        get_u32(image, HEAD_LIMIT),
+        get_u32(image, HEAD_BLOCKS),
     )
 }

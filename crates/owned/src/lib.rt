@@ -8,17 +8,16 @@ use encoder::finish;
 use encoder::raw;
 use encoder::start;
 use encoder::time;
-use plan::Outcome;
 use recording::Encoder;
+use recording::Outcome;
 use recording::SignalRecord;
-use recording::SignalRef;
+use signal::SignalRef;
 use value::states::States;
 ghost use mathlib.Core.Path.{_≡_};
 ghost use mathlib.Core.List.{[]};
 ghost use Rattle.value.specs.Class.{classNumber};
 ghost use Rattle.signal.specs.Content.{vcd, raw, real};
-ghost use Rattle.recording.specs.Calls.{replyOf};
-ghost use Rattle.recording.specs.Memory.{memory, after};
+ghost use Rattle.recording.specs.Memory.{memory, left};
 ghost use Rattle.recording.specs.Step.{startOf, timeOf, changeOf, finishOf};
 
 // What a call answers, the state and the records after it.
@@ -42,7 +41,7 @@ pub fn start<'t, 'i>(
     times: &'t [u64],
     image: &'i mut [u8],
 ) -> Kept
-    ensures { λ r. ⌜ after (replyOf (r .outcome .answer)) (memory (r .outcome .state) (r .records) (now (times .entry)) [] (now (image .exit)))
+    ensures { λ r. ⌜ left (r .outcome) (r .records) (now (times .entry)) [] (now (image .exit))
         ≡ startOf limit signals (memory state kept (now (times .entry)) [] (now (image .entry))) ⌝ }
 {
     let mut records = kept;
@@ -59,7 +58,7 @@ pub fn time_change<'t, 'w, 'i>(
     image: &'i mut [u8],
     time: u64,
 ) -> Kept
-    ensures { λ r. ⌜ after (replyOf (r .outcome .answer)) (memory (r .outcome .state) (r .records) (now (times .exit)) (now (work .entry)) (now (image .exit)))
+    ensures { λ r. ⌜ left (r .outcome) (r .records) (now (times .exit)) (now (work .entry)) (now (image .exit))
         ≡ timeOf (memory state kept (now (times .entry)) (now (work .entry)) (now (image .entry))) time ⌝ }
 {
     let mut records = kept;
@@ -77,7 +76,7 @@ pub fn vcd_value_change<'t, 'w, 'i, 'b>(
     signal: SignalRef,
     value: &'b [u8],
 ) -> Kept
-    ensures { λ r. ⌜ after (replyOf (r .outcome .answer)) (memory (r .outcome .state) (r .records) (now (times .entry)) (now (work .exit)) (now (image .entry)))
+    ensures { λ r. ⌜ left (r .outcome) (r .records) (now (times .entry)) (now (work .exit)) (now (image .entry))
         ≡ changeOf (memory state kept (now (times .entry)) (now (work .entry)) (now (image .entry))) (signal .0) (vcd (now (value .entry))) ⌝ }
 {
     let mut records = kept;
@@ -96,7 +95,7 @@ pub fn raw_class_change<'t, 'w, 'i, 'b>(
     claim: States,
     bytes: &'b [u8],
 ) -> Kept
-    ensures { λ r. ⌜ after (replyOf (r .outcome .answer)) (memory (r .outcome .state) (r .records) (now (times .entry)) (now (work .exit)) (now (image .entry)))
+    ensures { λ r. ⌜ left (r .outcome) (r .records) (now (times .entry)) (now (work .exit)) (now (image .entry))
         ≡ changeOf (memory state kept (now (times .entry)) (now (work .entry)) (now (image .entry))) (signal .0) (raw (classNumber claim) (now (bytes .entry))) ⌝ }
 {
     let mut records = kept;
@@ -124,7 +123,7 @@ pub fn raw_claim_change<'t, 'w, 'i, 'b>(
     claim: u32,
     bytes: &'b [u8],
 ) -> Kept
-    ensures { λ r. ⌜ after (replyOf (r .outcome .answer)) (memory (r .outcome .state) (r .records) (now (times .entry)) (now (work .exit)) (now (image .entry)))
+    ensures { λ r. ⌜ left (r .outcome) (r .records) (now (times .entry)) (now (work .exit)) (now (image .entry))
         ≡ changeOf (memory state kept (now (times .entry)) (now (work .entry)) (now (image .entry))) (signal .0) (raw claim (now (bytes .entry))) ⌝ }
 {
     let mut records = kept;
@@ -151,7 +150,7 @@ pub fn real_change<'t, 'w, 'i>(
     signal: SignalRef,
     bits: u64,
 ) -> Kept
-    ensures { λ r. ⌜ after (replyOf (r .outcome .answer)) (memory (r .outcome .state) (r .records) (now (times .entry)) (now (work .exit)) (now (image .entry)))
+    ensures { λ r. ⌜ left (r .outcome) (r .records) (now (times .entry)) (now (work .exit)) (now (image .entry))
         ≡ changeOf (memory state kept (now (times .entry)) (now (work .entry)) (now (image .entry))) (signal .0) (real bits) ⌝ }
 {
     let mut records = kept;
@@ -167,7 +166,7 @@ pub fn finish<'t, 'w, 'i>(
     work: &'w [u8],
     image: &'i mut [u8],
 ) -> Kept
-    ensures { λ r. ⌜ after (replyOf (r .outcome .answer)) (memory (r .outcome .state) (r .records) (now (times .exit)) (now (work .entry)) (now (image .exit)))
+    ensures { λ r. ⌜ left (r .outcome) (r .records) (now (times .exit)) (now (work .entry)) (now (image .exit))
         ≡ finishOf (memory state kept (now (times .entry)) (now (work .entry)) (now (image .entry))) ⌝ }
 {
     let mut records = kept;

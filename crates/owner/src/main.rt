@@ -1,138 +1,135 @@
 // Drives the recorder over an array of two records that the program owns: the bench sheet's recording, cuts, a skip, raw and real
 // values, and each refusal of a recorder. Document 01, 'Recording', 'Turned back' and 'Bench sheet'.
 //
-// Each call is answered by a line. stdin has the same calls as a sheet, and stdout is what oracle/recorder.py answers to it.
-mod answer;
-mod device;
+// Standard input has one call to a line, in the form of crates/refused/stdin; each is answered by a line. stdout is what
+// oracle/recorder.py answers to the same sheet.
+mod calls;
+mod records;
 
-use device::claim;
-use device::closed_device;
-use device::finish;
-use device::raw;
-use device::real;
-use device::start;
-use device::time;
-use device::vcd;
-use signal::kind::SignalEncoding;
+use calls::perform;
+use libc::STDIN_FILENO;
+use line::hex::put_hex;
+use owned::Kept;
+use recording::SignalRecord;
+use records::records_for;
+use sheet::answer::print_made;
+use sheet::lent_bytes;
+use sheet::lent_numbers;
+use sheet::line_end;
+use sheet::run::CALL;
+use sheet::run::FINISH;
+use sheet::run::FIRST;
+use sheet::run::IMAGE;
+use sheet::run::Run;
+use sheet::run::SECOND;
+use sheet::run::START;
+use sheet::run::TIMES;
+use sheet::run::WORK;
+use sheet::run::fresh_run;
+use sheet::run::put_outcome;
+use sheet::run::state_of;
+use sheet::run::take_line;
+use sheet::value_digits;
+use text::before;
+use text::between;
 
-// Widths 1 and 4, B 4.
-fn bench_sheet() {
-    let mut times = [0u64; 4];
-    let mut work = [0u8; 128];
-    let mut image = [0u8; 128];
-    let one = SignalEncoding::BitVector(1);
-    let four = SignalEncoding::BitVector(4);
-    let d = start(closed_device(one, four), 4, &mut times, &mut image);
-    let d = time(d, 10, &mut times, &mut work, &mut image);
-    let d = vcd(d, 0, b"1", &mut times, &mut work, &mut image);
-    let d = vcd(d, 1, b"b1x", &mut times, &mut work, &mut image);
-    let d = time(d, 20, &mut times, &mut work, &mut image);
-    let d = vcd(d, 1, b"b0001", &mut times, &mut work, &mut image);
-    finish(d, &mut times, &mut work, &mut image);
+// A start finds records of its kinds, any other call those of the call before.
+fn begun(run: &Run, line: &[u8], records: [SignalRecord; 2]) -> [SignalRecord; 2] {
+    if run[CALL] == START {
+        return records_for(line);
+    }
+    records
 }
 
-// B 2, times 1, 2 and 3: the third cuts, and the finish. The second signal's top class is not lowered by a cut.
-fn cuts() {
-    let mut times = [0u64; 4];
-    let mut work = [0u8; 128];
-    let mut image = [0u8; 128];
-    let one = SignalEncoding::BitVector(1);
-    let four = SignalEncoding::BitVector(4);
-    let d = start(closed_device(one, four), 2, &mut times, &mut image);
-    let d = time(d, 1, &mut times, &mut work, &mut image);
-    let d = vcd(d, 0, b"1", &mut times, &mut work, &mut image);
-    let d = time(d, 2, &mut times, &mut work, &mut image);
-    let d = vcd(d, 1, b"zzzz", &mut times, &mut work, &mut image);
-    let d = time(d, 3, &mut times, &mut work, &mut image);
-    let d = vcd(d, 0, b"0", &mut times, &mut work, &mut image);
-    let d = vcd(d, 1, b"1010", &mut times, &mut work, &mut image);
-    finish(d, &mut times, &mut work, &mut image);
+// The records after a call; the run holds the rest of its outcome.
+fn keep(run: &mut Run, kept: Kept) -> [SignalRecord; 2] {
+    let outcome = kept.outcome;
+    let records = kept.records;
+    put_outcome(run, outcome);
+    records
 }
 
-// A time goes back: changes are skipped until one above the last.
-fn skip() {
-    let mut times = [0u64; 4];
-    let mut work = [0u8; 128];
-    let mut image = [0u8; 128];
-    let event = SignalEncoding::BitVector(0);
-    let one = SignalEncoding::BitVector(1);
-    let d = start(closed_device(event, one), 4, &mut times, &mut image);
-    let d = time(d, 10, &mut times, &mut work, &mut image);
-    let d = time(d, 5, &mut times, &mut work, &mut image);
-    let d = vcd(d, 1, b"1", &mut times, &mut work, &mut image);
-    let d = time(d, 10, &mut times, &mut work, &mut image);
-    let d = vcd(d, 1, b"0", &mut times, &mut work, &mut image);
-    let d = time(d, 11, &mut times, &mut work, &mut image);
-    let d = vcd(d, 1, b"x", &mut times, &mut work, &mut image);
-    finish(d, &mut times, &mut work, &mut image);
-}
-
-// Raw values by the struct and by the claim's number, and reals.
-fn raw_and_real() {
-    let mut times = [0u64; 4];
-    let mut work = [0u8; 128];
-    let mut image = [0u8; 128];
-    let four = SignalEncoding::BitVector(4);
-    let d = start(
-        closed_device(SignalEncoding::Real, four),
-        2,
-        &mut times,
-        &mut image,
+// Makes the call that the run holds on what is lent.
+fn make(
+    run: &mut Run,
+    records: [SignalRecord; 2],
+    value: &[u8],
+    times: &mut [u64],
+    work: &mut [u8],
+    image: &mut [u8],
+) -> [SignalRecord; 2] {
+    let state = state_of(&*run);
+    let t = run[TIMES];
+    let w = run[WORK];
+    let i = run[IMAGE];
+    let kept = perform(
+        run[CALL],
+        run[FIRST],
+        run[SECOND],
+        value,
+        state,
+        records,
+        lent_numbers(times, t),
+        lent_bytes(work, w),
+        lent_bytes(image, i),
     );
-    let d = time(d, 0, &mut times, &mut work, &mut image);
-    let d = raw(d, 1, b"\x05", &mut times, &mut work, &mut image);
-    let d = claim(d, 1, b"\x1b", &mut times, &mut work, &mut image);
-    let d = real(d, 0, 0x3ff8000000000000, &mut times, &mut work, &mut image);
-    finish(d, &mut times, &mut work, &mut image);
+    keep(run, kept)
 }
 
-// Refusals 1 to 6, with an absent signal and a width of 4. The finish shows that they left nothing behind.
-fn refused_calls() {
+// The records that the program owns.
+struct Owned {
+    records: [SignalRecord; 2],
+}
+
+// Makes the call of a line, if it has one, and answers it.
+fn take_call(
+    run: &mut Run,
+    line: &[u8],
+    held: Owned,
+    times: &mut [u64],
+    work: &mut [u8],
+    image: &mut [u8],
+) -> Owned {
+    if FINISH < run[CALL] {
+        return held;
+    }
+    let records = held.records;
+    let found = begun(&*run, line, records);
+    let mut space = [0u8; 16];
+    let n = put_hex(&mut space, value_digits(&*run, line));
+    let left = make(run, found, before(&space, n), times, work, image);
+    print_made(&*run, false, &*image);
+    Owned { records: left }
+}
+
+fn unset() -> Owned {
+    let records = records_for(b"");
+    Owned { records }
+}
+
+fn take_lines(run: &mut Run, sheet: &[u8], times: &mut [u64], work: &mut [u8], image: &mut [u8]) {
+    let mut held = unset();
+    let mut at = 0;
+    while at < sheet.len() {
+        let end = line_end(sheet, at);
+        let line = between(sheet, at, end);
+        at = end + 1;
+        take_line(run, line);
+        held = take_call(run, line, held, times, work, image);
+    }
+}
+
+// Makes the calls of a sheet in memory of its own.
+fn take_sheet(sheet: &[u8]) {
+    let mut run = fresh_run(4, 128, 128);
     let mut times = [0u64; 4];
     let mut work = [0u8; 128];
     let mut image = [0u8; 128];
-    let four = SignalEncoding::BitVector(4);
-    let d = closed_device(SignalEncoding::Absent, four);
-    let d = time(d, 1, &mut times, &mut work, &mut image);
-    let d = start(d, 0, &mut times, &mut image);
-    let d = start(d, 4, &mut times, &mut image);
-    let d = vcd(d, 1, b"1", &mut times, &mut work, &mut image);
-    let d = time(d, 1, &mut times, &mut work, &mut image);
-    let d = vcd(d, 2, b"1", &mut times, &mut work, &mut image);
-    let d = raw(d, 0, b"\x05", &mut times, &mut work, &mut image);
-    let d = real(d, 1, 0, &mut times, &mut work, &mut image);
-    let d = vcd(d, 1, b"0b", &mut times, &mut work, &mut image);
-    let d = claim(d, 3, b"\x05", &mut times, &mut work, &mut image);
-    let d = claim(d, 0, b"\x05\x05", &mut times, &mut work, &mut image);
-    let d = claim(d, 0, b"\x05", &mut times, &mut work, &mut image);
-    let d = finish(d, &mut times, &mut work, &mut image);
-    finish(d, &mut times, &mut work, &mut image);
-}
-
-// Refusals 7, 8 and 10: too little is lent, of the work, the image and the times. Then enough is.
-fn short_buffers() {
-    let mut times = [0u64; 4];
-    let mut work = [0u8; 128];
-    let mut image = [0u8; 128];
-    let one = SignalEncoding::BitVector(1);
-    let mut few = [0u64; 3];
-    let mut short = [0u8; 8];
-    let mut scant = [0u8; 24];
-    let d = start(closed_device(one, one), 4, &mut times, &mut image);
-    let d = time(d, 9, &mut times, &mut work, &mut image);
-    let d = vcd(d, 0, b"1", &mut times, &mut short, &mut image);
-    let d = vcd(d, 0, b"1", &mut few, &mut work, &mut image);
-    let d = vcd(d, 0, b"1", &mut times, &mut work, &mut image);
-    let d = finish(d, &mut times, &mut work, &mut scant);
-    let d = finish(d, &mut few, &mut work, &mut image);
-    finish(d, &mut times, &mut work, &mut image);
+    take_lines(&mut run, sheet, &mut times, &mut work, &mut image);
 }
 
 fn main() {
-    bench_sheet();
-    cuts();
-    skip();
-    raw_and_real();
-    refused_calls();
-    short_buffers();
+    let mut sheet = [0u8; 4096];
+    let n = io::read_full(STDIN_FILENO, &mut sheet);
+    take_sheet(&sheet[..n]);
 }

@@ -1,5 +1,4 @@
 pub mod PackedLaws
-pub mod LargestLaws
 pub mod RawLaws
 pub mod Cases
 pub mod RawSaid

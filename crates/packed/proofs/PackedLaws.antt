@@ -19,7 +19,7 @@ use Rattle.value.specs.Class.{bitsOf, classOf, classOfAll, allSymbols, largestO
 use Rattle.value.specs.declared.states.States.the-variants.{Two}
 use Rattle.value.specs.declared.states.MaybeStates.the-variants.{Some}
 use Rattle.value.proofs.ClassLaws.{by-class, class-two, class-largest, all-largest, min-some}
-use Rattle.packed.specs.Packed.{numberOf, digitAt, digits, packedLength, packed, unpacked, topClear}
+use Rattle.packed.specs.Packed.{numberOf, digitAt, digits, perByte, packedLength, packed, unpacked, topClear}
 
 -- every element is below m (past the end stands 0)
 abbrev pub AllBelow : (m : ℕ) → List ℕ → Type 0
@@ -138,8 +138,11 @@ symbols-below c s a k i =
     let n = symbol-fits c (largestOf s) m (omega (arith, class-largest s)) in
     omega (arith, up-to-largest s i)
 
-pub room-of : (m c : ℕ) → (8 * packedLength m c ≤ m * bitsOf c + 7) × (m * bitsOf c ≤ 8 * packedLength m c)
-room-of m c = omega arith
+-- the symbols of a byte fill it
+pub byte-full : (c : ℕ) → perByte c * bitsOf c ≡ 8
+byte-full zero = refl
+byte-full (suc zero) = refl
+byte-full (suc (suc c)) = refl
 
 -- the byte of a place
 pub place-in : (w c j : ℕ) → j < w → j * bitsOf c / 8 < packedLength w c

@@ -25,6 +25,12 @@ unfoldable pub digits : (b n v : ℕ) → List ℕ
 digits b zero v = []
 digits b (suc n) v = digitAt b n v ∷ digits b n v
 
+-- how many symbols a byte holds
+abbrev pub perByte : (class : ℕ) → ℕ
+perByte zero = 8
+perByte (suc zero) = 4
+perByte (suc (suc c)) = 2
+
 -- ceil(width × bits / 8)
 abbrev pub packedLength : (width class : ℕ) → ℕ
 packedLength w c = (w * bitsOf c + 7) / 8

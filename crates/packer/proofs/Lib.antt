@@ -1,4 +1,2 @@
 pub mod PackLaws
 pub mod NotationLaws
-pub mod LetterLaws
-pub mod CopyLaws

@@ -3,24 +3,20 @@
 use Prim.Native.Nat.{ℕ, zero, suc, _+_, _-_, _*_, _/_, _^_, _≤_, _<_}
 use mathlib.Core.Path.{_≡_, refl, sym, ap, ap₂, _∙_}
 use mathlib.Core.List.{List}
-use native.Mathlib.Nat.{sub-self, zero-mul, mod-lt, mod-one, zero-mod, div-eq-of-lt, mul-le-mul-right, lt-of-lt-of-le}
+use native.Mathlib.Nat.{sub-self, zero-mul, mod-lt, mod-one, zero-mod, mul-assoc, div-eq-of-lt, mul-le-mul-right, lt-of-lt-of-le}
 use native.Mathlib.Numerals.{add-one}
 use native.Mathlib.Omega.{arith}
 use lib.ListN.{length, set, length-set}
 use lib.Seq.{sets}
 use lib.Pow.{pow-pos, pow-mono, mod-pow-add, shr-shr}
 use Rattle.value.specs.Class.{bitsOf}
-use Rattle.packed.specs.Packed.{packedLength, digitAt, digits}
-use Rattle.packer.specs.Number.{perByte, symbolsAt}
+use Rattle.packed.specs.Packed.{perByte, packedLength, digitAt, digits}
+use Rattle.packed.proofs.PackedLaws.{byte-full}
+use Rattle.packer.specs.Number.{symbolsAt}
 
 -- the symbols of m bytes take 8 m bits
 pub byte-bits : (c m : ℕ) → m * perByte c * bitsOf c ≡ m * 8
-byte-bits zero m = omega arith
-byte-bits (suc zero) m = omega arith
-byte-bits (suc (suc c)) m = omega arith
-
-pub full-bits : (c : ℕ) → perByte c * bitsOf c ≡ 8
-full-bits c = omega (arith, byte-bits c 1)
+byte-bits c m = mul-assoc m (perByte c) (bitsOf c) ∙ ap (λ (n : ℕ). m * n) (byte-full c)
 
 -- a byte of a packed value has a symbol
 pub byte-in : (w c m : ℕ) → m < packedLength w c → m * perByte c < w
@@ -97,7 +93,7 @@ module _ (b after count v : ℕ) where
 
 -- and are one where they fill it
 pub taken-byte : (c m v : ℕ) → symbolsAt (bitsOf c) (m * perByte c) (perByte c) v ≡ digitAt 8 m v
-taken-byte c m v = rw (byte-bits c m, full-bits c) refl
+taken-byte c m v = rw (byte-bits c m, byte-full c) refl
 
 -- ---- the loops that write bytes of a number, n of them from `at` on, and `left` are left
 

@@ -1,7 +1,7 @@
 -- The symbols of a vector in a class, as one number: its digits of 8 bits are the packed bytes, so that a byte is made of the symbols that
 -- lie in it alone.
 -- Assumes nothing.
-use Prim.Native.Nat.{ℕ, zero, suc, _*_, _/_, _%_, _^_, _≤_}
+use Prim.Native.Nat.{ℕ, _*_, _/_, _%_, _^_, _≤_}
 use mathlib.Core.Path.{_≡_}
 use mathlib.Core.Bool.{Bool, true, false}
 use mathlib.Core.List.{List}
@@ -12,12 +12,6 @@ use Rattle.packed.specs.Packed.{numberOf}
 use Rattle.packer.specs.Notation.{symbolsFrom, Readable}
 use Rattle.packer.specs.declared.Notation.{Notation}
 use Rattle.packer.specs.declared.Notation.the-variants.{Ascii, Packed}
-
--- symbols in a byte
-abbrev pub perByte : (class : ℕ) → ℕ
-perByte zero = 8
-perByte (suc zero) = 4
-perByte (suc (suc c)) = 2
 
 -- the number of the symbols that bytes stand for
 abbrev pub numberIn : (class : ℕ) → Notation → (width : ℕ) → List ℕ → ℕ

@@ -15,7 +15,7 @@ use Rattle.numbers.specs.LittleEndian.{unle}
 use Rattle.signal.specs.declared.kind.SignalEncoding.{SignalEncoding}
 use Rattle.stream.specs.Entries.{Entry}
 use Rattle.image.specs.Block.{Part}
-use Rattle.storage.specs.Storage.{kindFrom}
+use Rattle.image.specs.Head.{kindFrom}
 use Rattle.reading.specs.Decided.{uints}
 use Rattle.reading.proofs.PlaceLaws.{uints-more}
 use Rattle.parts.specs.Parts.{partIn, Parts, ill, parts, addPart, placed, partsFrom, startOf, onePart, atZero, areParts, kindsAt}

@@ -12,7 +12,7 @@ use Rattle.signal.specs.declared.kind.SignalEncoding.{SignalEncoding}
 use Rattle.signal.specs.Kind.{topLimit}
 use Rattle.stream.specs.Entries.{Entry}
 use Rattle.image.specs.Block.{Part, part}
-use Rattle.storage.specs.Storage.{kindFrom}
+use Rattle.image.specs.Head.{kindFrom}
 use Rattle.codec.specs.Walk.{walkStream}
 use Rattle.parts.specs.declared.PartStart.{PartStart}
 use Rattle.parts.specs.declared.PartStart.the-variants.{From, Wrong}

@@ -3,10 +3,10 @@
 // They are read from the last signal to the first, since a part ends where the next one begins. specs/Parts.antt says what is found so, and
 // proofs/PartsLaws.antt that it is what crate codec's `lengths` and `walkPart` find.
 use image::SignalDataOffset;
+use image::kind::kind_from;
 use numbers::little_endian::get_u32;
 use reading::changes::is_stream;
 use signal::kind::SignalEncoding;
-use storage::kind_from;
 ghost use mathlib.Core.Path.{_≡_};
 ghost use Prim.Native.Nat.{_+_, _*_, _≤_, _<_};
 ghost use lib.ListN.{length, drop};

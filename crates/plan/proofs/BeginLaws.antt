@@ -20,6 +20,7 @@ use Rattle.recording.specs.Calls.{replyOf}
 use Rattle.recording.specs.Memory.{Memory, memory, after, Tests, first, refused}
 use Rattle.recording.specs.Refusals.{unknownKind, startTests}
 use Rattle.recording.specs.Step.{fresh, startOf}
+use Rattle.recording.specs.State.{startState}
 use Rattle.recording.proofs.StartCases.{Startable, begunIn, start-fits}
 use Rattle.recording.proofs.TestsLaws.{positive, none-of, guarded-none, guarded-first}
 use Rattle.head.specs.Kinds.{headNumbers, kindsPut, KindsFit}
@@ -27,8 +28,8 @@ use Rattle.head.proofs.HeadLaws.{kinds-none, kinds-length, head-written}
 use Rattle.cut.specs.Turns.{firstBy}
 use Rattle.cut.proofs.TurnLaws.{first-none, first-all}
 use Rattle.plan.specs.declared.Begun.{Begun}
-use Rattle.plan.specs.Plan.{outcome}
-use Rattle.plan.specs.Begin.{begun, begunState, beginOf, beginIn, startCarried}
+use Rattle.plan_state.specs.Outcomes.{outcome}
+use Rattle.plan.specs.Begin.{begun, beginOf, beginIn, startCarried}
 
 -- what holds where no test refuses a start
 pub startable : (limit signals records : ℕ) (unknown : Bool) (times image : ℕ)
@@ -65,16 +66,16 @@ module _ (s : Encoder) (l g : ℕ) (u : Bool) (n t : ℕ) (i : List ℕ) where
       → (beginOf s l g u n t (length i) ≡ begun (outcome (Refused (first tests)) s) 0) × (beginIn l g u n t i ≡ i)
   unfolding beginOf beginIn
   begin-refused z = (
-    guarded-first tests (λ k. begun (outcome (Refused k) s) 0) (begun (outcome Started (begunState l g)) n) z,
+    guarded-first tests (λ k. begun (outcome (Refused k) s) 0) (begun (outcome Started (startState l g)) n) z,
     guarded-first tests (λ k. i) (headNumbers l g i) z,
   )
 
   pub begin-taken : first tests ≡ 0
-      → (beginOf s l g u n t (length i) ≡ begun (outcome Started (begunState l g)) n) × (beginIn l g u n t i ≡ headNumbers l g i)
+      → (beginOf s l g u n t (length i) ≡ begun (outcome Started (startState l g)) n) × (beginIn l g u n t i ≡ headNumbers l g i)
   unfolding beginOf beginIn
   begin-taken z =
       let p = start-positive l g n u t (length i) in (
-        guarded-none tests (λ k. begun (outcome (Refused k) s) 0) (begun (outcome Started (begunState l g)) n) p z,
+        guarded-none tests (λ k. begun (outcome (Refused k) s) 0) (begun (outcome Started (startState l g)) n) p z,
         guarded-none tests (λ k. i) (headNumbers l g i) p z,
       )
 

@@ -22,15 +22,18 @@ use Rattle.recording.specs.Refusals.{stateTests}
 use Rattle.recording.specs.Step as step
 use Rattle.recording.proofs.TestsLaws.{guarded-none, guarded-first}
 use Rattle.refusals.proofs.StateLaws.{Sound, sound, state-positive}
-use Rattle.cut.specs.Cut.{sized, cutState, nextTimes, CutOpens}
+use Rattle.cut.specs.Cut.{sized, nextTimes, CutOpens}
 use Rattle.cut.specs.Turns.{firstBy, cutTurns, TurnsFit}
 use Rattle.cut.proofs.TurnLaws.{first-all}
 use Rattle.cut.proofs.CutLaws.{Cuttable, Sizes, refuses, fits, sizes, made, cut-opens, cut-turns, cut-closes, cut-made}
-use Rattle.plan.specs.declared.Outcome.{Outcome}
-use Rattle.plan.specs.declared.Plan.{Plan}
-use Rattle.plan.specs.Plan.{outcome, still, cutting, taking, planRefused, takenState, timeSized, planBy, planTime, closing, finishSized, planFinish}
+use Rattle.recording.specs.declared.Outcome.{Outcome}
+use Rattle.recording.specs.Step.{withCut, timedState}
+use Rattle.plan_state.specs.declared.plan.Plan.{Plan}
+use Rattle.plan_state.specs.Outcomes.{outcome, still, cutting, taking, closing}
+use Rattle.plan.specs.Plan.{planRefused, timeWithCut, timeSized, planBy, planTime, finishWithCut, finishSized, planFinish}
 use Rattle.plan.specs.Carry.{openedBy, turnedBy, closedBy, timesBy, carried, Completes, Carries}
-use Rattle.plan.proofs.TimeLaws.{time-refused, time-passed, above-taken, above-cut, sized-refused, sized-cut}
+use Rattle.plan.proofs.TimeLaws.{time-refused, time-passed, above-taken, above-cut}
+use Rattle.plan.proofs.SizedLaws.{sized-refused, sized-cut}
 use Rattle.plan.proofs.FinishLaws as ends
 
 module _ (s : Encoder) (rs : List SignalRecord) (t w i : List ℕ) where
@@ -131,10 +134,10 @@ module _ (s : Encoder) (rs : List SignalRecord) (t w i : List ℕ) where
 
           by : Sizes s rs t w i h → Does (planBy s (length rs) w (length i) x above) (step.timeBy m x above)
           by (refuses k z a b) =
-              does-by (plan-is ∙ rw a (sized-refused s (length rs) x _ z)) (time-is ∙ rw b refl) (refused-does k)
+              does-by (plan-is ∙ rw a (sized-refused s _ (timeWithCut s (length rs) x) z)) (time-is ∙ rw b refl) (refused-does k)
           by (fits n a c) =
-              let o = outcome Taken (takenState (cutState s n)) in
-              does-by (plan-is ∙ rw a (sized-cut s (length rs) x _ refl)) (time-is ∙ rw (c .cut, c .whole) refl)
+              let o = outcome Taken (timedState (withCut s n)) in
+              does-by (plan-is ∙ rw a (sized-cut s _ (timeWithCut s (length rs) x) refl)) (time-is ∙ rw (c .cut, c .whole) refl)
               (cut-takes h n c (omega (arith, h .low)) o x (omega arith) (omega (arith, h .low, h .table)))
 
       room-does : (s .held ≡ s .limit → ⊥) → Does (planBy s (length rs) w (length i) x above) (step.timeBy m x above)
@@ -142,7 +145,7 @@ module _ (s : Encoder) (rs : List SignalRecord) (t w i : List ℕ) where
           let less : s .held < s .limit = omega (arith, h .held, e) in
           let back : s .held + 1 - 1 ≡ s .held = omega arith in
           does-by (above-taken s (length rs) w (length i) x less) (rw (ne-eqb (s .held) (s .limit) e, back) refl)
-          (taking-does (outcome Taken (takenState s)) x (omega arith) (omega (arith, h .table, less)))
+          (taking-does (outcome Taken (timedState s)) x (omega arith) (omega (arith, h .table, less)))
 
       way-does : (y : Way) → Does (planBy s (length rs) w (length i) x y) (step.timeBy m x y)
       way-does equal = still-does (outcome Same s)
@@ -188,10 +191,10 @@ module _ (s : Encoder) (rs : List SignalRecord) (t w i : List ℕ) where
 
       by : Sizes s rs t w i h → Does ending (step.finishOf m)
       by (refuses k y a b) =
-          does-by (plan-is ∙ rw a (ends.sized-refused s (length rs) _ y)) (finish-is ∙ rw b refl) (refused-does k)
+          does-by (plan-is ∙ rw a (sized-refused s _ (finishWithCut s (length rs)) y)) (finish-is ∙ rw b refl) (refused-does k)
       by (fits n a c) =
-          does-by (plan-is ∙ rw a (ends.sized-cut s (length rs) _ refl)) (finish-is ∙ rw (c .cut, c .whole) refl)
-          (cut-does h n c (omega (arith, e)) (closing (cutState s n)))
+          does-by (plan-is ∙ rw a (sized-cut s _ (finishWithCut s (length rs)) refl)) (finish-is ∙ rw (c .cut, c .whole) refl)
+          (cut-does h n c (omega (arith, e)) (closing (withCut s n)))
 
   finish-does : Does ending (step.finishOf m)
   finish-does = by (ℕ-discrete (first tests) 0) (ℕ-discrete (s .held) 0)

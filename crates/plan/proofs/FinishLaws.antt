@@ -12,10 +12,10 @@ use Rattle.recording.specs.Memory.{Tests, first}
 use Rattle.recording.specs.Refusals.{stateTests}
 use Rattle.recording.proofs.TestsLaws.{guarded-none, guarded-first}
 use Rattle.refusals.proofs.StateLaws.{state-positive}
-use Rattle.cut.specs.declared.CutSize.{CutSize}
-use Rattle.cut.specs.Cut.{sized, cutState}
-use Rattle.plan.specs.declared.Plan.{Plan}
-use Rattle.plan.specs.Plan.{still, cutting, planRefused, closing, finishSized, planFinish}
+use Rattle.cut.specs.Cut.{sized}
+use Rattle.plan_state.specs.declared.plan.Plan.{Plan}
+use Rattle.plan_state.specs.Outcomes.{still, closing}
+use Rattle.plan.specs.Plan.{planRefused, finishSized, planFinish}
 
 module _ (s : Encoder) (n t : ℕ) (w : List ℕ) (i : ℕ) where
   abbrev tests : Tests
@@ -37,10 +37,3 @@ module _ (s : Encoder) (n t : ℕ) (w : List ℕ) (i : ℕ) where
 
   pub finish-held : first tests ≡ 0 → (s .held ≡ 0 → ⊥) → planFinish s n t w i ≡ finishSized s n (sized s w i)
   finish-held z e = past z ∙ rw (ne-eqb (s .held) 0 e) refl
-
-pub sized-refused : (s : Encoder) (n : ℕ) (c : CutSize) → (c .refusal ≡ 0 → ⊥) → finishSized s n c ≡ planRefused s (c .refusal)
-sized-refused s n c z = rw (ne-eqb (c .refusal) 0 z) refl
-
-pub sized-cut : (s : Encoder) (n : ℕ) (c : CutSize) → c .refusal ≡ 0
-    → finishSized s n c ≡ cutting (closing (cutState s (c .size))) s (c .size) n
-sized-cut s n c z = rw (eq-eqb (c .refusal) 0 z) refl

@@ -2,33 +2,29 @@
 -- proofs/BeginLaws: with the loops this is `startOf`.
 -- Assumes nothing.
 use Prim.Native.Nat.{ℕ}
-use mathlib.Core.Bool.{Bool, false}
+use mathlib.Core.Bool.{Bool}
 use mathlib.Core.List.{List}
 use lib.ListN.{length}
-use Rattle.image.specs.Head.{headSize}
 use Rattle.recording.specs.declared.Answer.the-variants.{Started, Refused}
 use Rattle.recording.specs.declared.Encoder.{Encoder}
 use Rattle.recording.specs.Calls.{replyOf}
 use Rattle.recording.specs.Memory.{Memory, memory, After, after, guarded}
 use Rattle.recording.specs.Refusals.{startTests, unknownKind}
-use Rattle.recording.specs.Step.{encoder, fresh}
+use Rattle.recording.specs.Step.{fresh}
 use Rattle.head.specs.Kinds.{headNumbers, kindsPut}
 use Rattle.cut.specs.Turns.{firstBy}
-use Rattle.plan.specs.declared.Outcome.{Outcome}
+use Rattle.recording.specs.declared.Outcome.{Outcome}
+use Rattle.recording.specs.State.{startState}
+use Rattle.plan_state.specs.Outcomes.{outcome}
 use Rattle.plan.specs.declared.Begun.{Begun}
-use Rattle.plan.specs.Plan.{outcome}
 
 -- `turns` of the loop over the records follow
 abbrev pub begun : Outcome → (turns : ℕ) → Begun
 begun o n = record { outcome = o; turns = n }
 
--- the state of a recording without times and blocks
-abbrev pub begunState : (limit signals : ℕ) → Encoder
-begunState l s = encoder false l s 0 0 (headSize s) 0 false 0
-
 -- a start of `records` records, by whether a kind among them is unknown; `times` and `image` are how many times and bytes are lent
 unfoldable pub beginOf : Encoder → (limit signals : ℕ) → (unknown : Bool) → (records times image : ℕ) → Begun
-beginOf s l g u n t i = guarded (startTests l g n u t i) (λ k. begun (outcome (Refused k) s) 0) (begun (outcome Started (begunState l g)) n)
+beginOf s l g u n t i = guarded (startTests l g n u t i) (λ k. begun (outcome (Refused k) s) 0) (begun (outcome Started (startState l g)) n)
 
 -- the image before the loop
 unfoldable pub beginIn : (limit signals : ℕ) → (unknown : Bool) → (records times : ℕ) → (image : List ℕ) → List ℕ

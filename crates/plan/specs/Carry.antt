@@ -13,7 +13,7 @@ use Rattle.recording.specs.Memory.{Memory, memory, After, after}
 use Rattle.recording.specs.Step.{rewound}
 use Rattle.cut.specs.Cut.{cutOpened, cutClosed, nextTimes, CutCloses}
 use Rattle.cut.specs.Turns.{firstBy, cutTurns, TurnsFit}
-use Rattle.plan.specs.declared.Plan.{Plan}
+use Rattle.plan_state.specs.declared.plan.Plan.{Plan}
 
 -- the image before the loop
 abbrev pub openedBy : Plan → (times work image : List ℕ) → List ℕ

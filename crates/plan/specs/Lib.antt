@@ -1,4 +1,3 @@
 pub mod Plan
 pub mod Carry
 pub mod Begin
-pub mod Way

@@ -1,8 +1,8 @@
 // A plan, before and after the loop over the records.
-use crate::Outcome;
-use crate::Plan;
 use cut::close_cut;
 use cut::open_cut;
+use plan_state::plan::Plan;
+use recording::Outcome;
 ghost use mathlib.Core.Path.{_≡_};
 ghost use mathlib.Core.Bool.{true};
 ghost use Prim.Native.Nat.{_-_, _<_};

@@ -1,32 +1,19 @@
 // A finish.
-use crate::Outcome;
-use crate::Plan;
 use crate::carry::open_planned;
-use crate::plan_cut;
-use crate::plan_still;
-use crate::refused;
 use cut::cut_size;
 use cut::cut_state;
-use recording::Answer;
+use plan_state::closed;
+use plan_state::plan::Plan;
+use plan_state::plan::plan_cut;
+use plan_state::plan::plan_still;
+use plan_state::refused;
 use recording::Encoder;
-use refusals::Lengths;
+use recording::Lengths;
 use refusals::state_refusal;
 ghost use mathlib.Core.Path.{_≡_};
 ghost use lib.ListN.{length};
-ghost use Rattle.plan.specs.Plan.{closing, planFinish};
+ghost use Rattle.plan.specs.Plan.{planFinish};
 ghost use Rattle.plan.specs.Carry.{openedBy};
-
-// The total bytes; no call is taken any more.
-fn closed(state: Encoder) -> Outcome
-    ensures { λ r. ⌜ r ≡ closing state ⌝ }
-{
-    let mut after = state;
-    after.closed = true;
-    Outcome {
-        answer: Answer::Finished(state.image),
-        state: after,
-    }
-}
 
 // Cuts if any time is held, and closes. The answer is the total.
 fn plan_finish(state: Encoder, lent: Lengths, work: &[u8]) -> Plan

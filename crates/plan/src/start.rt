@@ -1,39 +1,14 @@
 // The start of a recording. Document 01, 'Recording' and 'Turned back' (1).
 use crate::Begun;
-use crate::Outcome;
-use crate::refused;
 use head::put_numbers;
-use recording::Answer;
+use plan_state::begun;
+use plan_state::refused;
 use recording::Encoder;
-use refusals::Lengths;
+use recording::Lengths;
 use refusals::start_refusal;
 ghost use mathlib.Core.Path.{_≡_};
-ghost use Prim.Native.Nat.{_≤_};
 ghost use lib.ListN.{length};
-ghost use Rattle.plan.specs.Plan.{outcome};
-ghost use Rattle.plan.specs.Begin.{begunState, beginOf, beginIn};
-
-// The state of a recording without times and blocks: of the image its head is used.
-fn begun(limit: u32, signals: u32) -> Outcome
-    requires { ⌜ signals ≤ 65536 ⌝ }
-    ensures { λ r. ⌜ r ≡ outcome Answer.Started (begunState limit signals) ⌝ }
-{
-    let state = Encoder {
-        closed: false,
-        limit,
-        signals,
-        held: 0,
-        work: 0,
-        image: 16 + 4 * signals,
-        blocks: 0,
-        skip: false,
-        skipped: 0,
-    };
-    Outcome {
-        answer: Answer::Started,
-        state,
-    }
-}
+ghost use Rattle.plan.specs.Begin.{beginOf, beginIn};
 
 // Starts a recording of S signals with at most B times a block, of n records and so many lent times: writes the head's numbers, unless it is
 // refused. unknown tells of a record whose kind is unknown.

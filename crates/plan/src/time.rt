@@ -1,95 +1,27 @@
 // A time.
-use crate::Outcome;
-use crate::Plan;
 use crate::carry::open_planned;
-use crate::plan_cut;
-use crate::plan_still;
-use crate::refused;
 use cut::cut_size;
 use cut::cut_state;
-use recording::Answer;
+use plan_state::back;
+use plan_state::plan::Plan;
+use plan_state::plan::plan_cut;
+use plan_state::plan::plan_still;
+use plan_state::plan::plan_taken;
+use plan_state::refused;
+use plan_state::same;
+use plan_state::taken;
+use plan_state::way::Way;
+use plan_state::way::way_of;
 use recording::Encoder;
-use refusals::Lengths;
+use recording::Lengths;
 use refusals::state_refusal;
 ghost use mathlib.Core.Path.{_≡_};
-ghost use Prim.Native.Nat.{_+_, _≤_, _<_};
-ghost use lib.ListN.{length, take};
-ghost use Rattle.recording.specs.Calls.{above, wayOf};
+ghost use lib.ListN.{length};
+ghost use Rattle.recording.specs.Calls.{above};
 ghost use Rattle.recording.specs.Memory.{first};
 ghost use Rattle.recording.specs.Refusals.{stateTests};
-ghost use Rattle.recording.specs.Step.{skipping};
-ghost use Rattle.plan.specs.Way.{wayIn};
-ghost use Rattle.plan.specs.Plan.{outcome, taking, takenState, planBy, planTime};
+ghost use Rattle.plan.specs.Plan.{planBy, planTime};
 ghost use Rattle.plan.specs.Carry.{openedBy};
-
-// A time against the last one taken; the first is above.
-enum Way {
-    Above,
-    Equal,
-    Below,
-}
-
-// Where a time stands against the last of the held ones. Without one every time is above.
-fn way_of(times: &[u64], held: u32, time: u64) -> Way
-    requires { ⌜ held ≤ length (now times) ⌝ }
-    ensures { λ r. ⌜ wayIn r ≡ wayOf (take held (now (times .entry))) time ⌝ }
-{
-    if held == 0 {
-        return Way::Above;
-    }
-    let last = times[held as usize - 1];
-    if last < time {
-        Way::Above
-    } else if time == last {
-        Way::Equal
-    } else {
-        Way::Below
-    }
-}
-
-// An equal time changes nothing.
-fn same(state: Encoder) -> Outcome
-    ensures { λ r. ⌜ r ≡ outcome Answer.Same state ⌝ }
-{
-    let answer = Answer::Same;
-    Outcome { answer, state }
-}
-
-// A smaller time starts a skip.
-fn back(state: Encoder) -> Outcome
-    ensures { λ r. ⌜ r ≡ outcome Answer.Back (skipping state) ⌝ }
-{
-    let mut after = state;
-    after.skip = true;
-    Outcome {
-        answer: Answer::Back,
-        state: after,
-    }
-}
-
-// A taken time joins the table and ends a skip.
-fn taken(state: Encoder) -> Outcome
-    requires { ⌜ state .held + 1 < 4294967296 ⌝ }
-    ensures { λ r. ⌜ r ≡ outcome Answer.Taken (takenState state) ⌝ }
-{
-    let mut after = state;
-    after.held = state.held + 1;
-    after.skip = false;
-    Outcome {
-        answer: Answer::Taken,
-        state: after,
-    }
-}
-
-// The time is to be stored.
-fn plan_taken(plan: Plan, time: u64) -> Plan
-    ensures { λ r. ⌜ r ≡ taking plan time ⌝ }
-{
-    let mut after = plan;
-    after.takes = true;
-    after.time = time;
-    after
-}
 
 // A time that is above: a full table is cut first.
 fn plan_above(state: Encoder, lent: Lengths, work: &[u8], time: u64) -> Plan

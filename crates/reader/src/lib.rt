@@ -1,7 +1,7 @@
 // The calls that read an image. Document 01, 'Block and image', 'Loaded signal' and 'Turned back' (11, 4, 9).
 //
 // Any bytes may be given: no function has a `requires`. Each tests once that the opener accepts them; a caller that reads much of one image
-// tests with `open` and calls the functions of crates walk, loader and cursor, which ask for an accepted one. The contracts cite
+// tests with `open` and calls the functions of crates walk_part, walk_table, loader and cursor, which ask for an accepted one. The contracts cite
 // loaded/specs.
 use cursor::cursor_in;
 use loaded::CursorAnswer;
@@ -9,9 +9,9 @@ use loaded::LoadAnswer;
 use loaded::TableAnswer;
 use loader::load::load_in;
 use opener::open;
-use recording::SignalRef;
-use walk::part::stream_in;
-use walk::table::table_in;
+use signal::SignalRef;
+use walk_part::stream_in;
+use walk_table::table_in;
 ghost use mathlib.Core.Path.{_≡_};
 ghost use Rattle.loaded.specs.Opener.{streamOf};
 ghost use Rattle.loaded.specs.Reader.{loadReply, loadAfter, loadOf, tableReply, tableAfter, tableOf, cursorReply, cursorAfter, cursorOf};

@@ -61,7 +61,8 @@ pub rising-is : (n : ℕ) (s : List ℕ) (at t : ℕ) → 0 < n → t ≡ unle (
 unfolding risingAt
 rising-is n s at t h e =
     let q : at + 8 ≡ at + 8 * 1 = omega arith in
-    sym (ap (λ (l : List ℕ). pick (isYes (rising? l)) (Last (lastOr 0 l)) Wrong) (uints-more 8 n s at h ∙ ap₂ (λ (t p : ℕ). t ∷ uints 8 (n - 1) s p) (sym e) q) ∙ rising-from t (uints 8 (n - 1) s (at + 8 * 1)))
+    sym (ap (λ (l : List ℕ). pick (isYes (rising? l)) (Last (lastOr 0 l)) Wrong) (uints-more 8 n s at h ∙ ap₂ (λ (t p : ℕ). t ∷ uints 8 (n - 1) s p) (sym e) q)
+    ∙ rising-from t (uints 8 (n - 1) s (at + 8 * 1)))
 
 rise-next : (t u : ℕ) (l : List ℕ) → riseFrom t (u ∷ l) ≡ pick (ltb t u) (riseFrom u l) Wrong
 unfolding riseFrom
@@ -76,7 +77,8 @@ rise-turn : (t n i : ℕ) (s : List ℕ) (at u : ℕ) → i < n → u ≡ unle (
 rise-turn t n i s at u h e =
     let a : n - i - 1 ≡ n - (i + 1) = omega arith in
     let b : at + 8 * i + 8 ≡ at + 8 * (i + 1) = omega arith in
-    ap (riseFrom t) (uints-more 8 (n - i) s (at + 8 * i) (omega arith) ∙ ap₂ (λ (k p : ℕ). unle (take 8 (drop (at + 8 * i) s)) ∷ uints 8 k s p) a b ∙ ap (λ (v : ℕ). v ∷ uints 8 (n - (i + 1)) s (at + 8 * (i + 1))) (sym e))
+    ap (riseFrom t) (uints-more 8 (n - i) s (at + 8 * i) (omega arith) ∙ ap₂ (λ (k p : ℕ). unle (take 8 (drop (at + 8 * i) s)) ∷ uints 8 k s p) a b
+    ∙ ap (λ (v : ℕ). v ∷ uints 8 (n - (i + 1)) s (at + 8 * (i + 1))) (sym e))
     ∙ rise-next t u (uints 8 (n - (i + 1)) s (at + 8 * (i + 1)))
 
 pub rise-bad : (t n i : ℕ) (s : List ℕ) (at u : ℕ) → i < n → u ≡ unle (take 8 (drop (at + 8 * i) s)) → u ≤ t → riseFrom t (uints 8 (n - i) s (at + 8 * i)) ≡ Wrong
@@ -116,5 +118,6 @@ times-is n s at later end h =
 pub times-starts : (n : ℕ) (s : List ℕ) (at : ℕ) (later : Bool) (end : ℕ) (t : Bool) → (0 < n) × (at + 8 * n ≤ length s) → t ≡ startsAt s at later end → t ≡ false → Wrong ≡ timesAt n s at later end
 times-starts n s at later end t h e f = sym (times-is n s at later end h ∙ ap (λ (t : Bool). pick t (risingAt n s at) Wrong) (sym e ∙ f))
 
-pub times-rising : (n : ℕ) (s : List ℕ) (at : ℕ) (later : Bool) (end : ℕ) (t : Bool) (x : Times) → (0 < n) × (at + 8 * n ≤ length s) → t ≡ startsAt s at later end → t ≡ true → x ≡ risingAt n s at → x ≡ timesAt n s at later end
+pub times-rising : (n : ℕ) (s : List ℕ) (at : ℕ) (later : Bool) (end : ℕ) (t : Bool) (x : Times) → (0 < n) × (at + 8 * n ≤ length s) → t ≡ startsAt s at later end → t ≡ true
+    → x ≡ risingAt n s at → x ≡ timesAt n s at later end
 times-rising n s at later end t x h e f q = q ∙ sym (times-is n s at later end h ∙ ap (λ (t : Bool). pick t (risingAt n s at) Wrong) (sym e ∙ f))

@@ -2,7 +2,7 @@
 use signal::decode::ChangeValue;
 use signal::kind::SignalEncoding;
 use stream::read::ReadChange;
-use stream::read::read_change;
+use stream_read::read_change;
 use value::states::States;
 ghost use mathlib.Core.Path.{_≡_};
 ghost use Prim.Native.Nat.{_≤_};

@@ -2,3 +2,4 @@ pub mod CallsLaws
 pub mod Cases
 pub mod StartCases
 pub mod TestsLaws
+pub mod GatherLaws

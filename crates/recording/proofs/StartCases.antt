@@ -19,8 +19,9 @@ use Rattle.image.specs.Head.{headSize, headBytes, imageLimit}
 use Rattle.recording.specs.Calls.{started}
 use Rattle.recording.specs.Memory.{Memory, memory, After, after, recordOf, refused}
 use Rattle.recording.specs.Refusals.{outside, unknownKind, startTests}
-use Rattle.recording.specs.Step.{encoder, fresh, kindIn, startOf}
-use Rattle.recording.specs.Runs.{stale}
+use Rattle.recording.specs.State.{probeSkip, encoder, startState}
+use Rattle.recording.specs.Step.{fresh, kindIn, startOf}
+use Rattle.recording.specs.Runs.{staleState, stale}
 
 -- what is lawful in a start, by the numbers of its tests
 pub record Startable (limit signals records : ℕ) (unknown : Bool) (times image : ℕ) : Type 0 where
@@ -40,13 +41,22 @@ StartableIn l s m = Startable l s (length (m .records)) (unknownKind (m .records
 abbrev pub begunIn : (limit signals : ℕ) → Memory → After
 begunIn l s m =
     after started
-    (memory (encoder false l s 0 0 (headSize s) 0 false 0) (map fresh (m .records)) (m .times) (m .work)
+    (memory (startState l s) (map fresh (m .records)) (m .times) (m .work)
     (sets (m .image) 0 (headBytes l 0 (headSize s) (map kindIn (m .records)))))
 
 pub start-fits : (limit signals : ℕ) (m : Memory) → StartableIn limit signals m → startOf limit signals m ≡ begunIn limit signals m
 unfolding startOf startTests
 start-fits l s m f =
-    rw (le-ltb l 2 (f .low), le-ltb 65535 l (f .high), le-ltb (length (m .times)) l (f .table), le-ltb 65536 s (f .few), eq-eqb s (length (m .records)) (f .all), f .known, le-ltb (length (m .image)) (headSize s) (f .room), le-ltb imageLimit (length (m .image)) (f .short)) refl
+    rw (
+      le-ltb l 2 (f .low),
+      le-ltb 65535 l (f .high),
+      le-ltb (length (m .times)) l (f .table),
+      le-ltb 65536 s (f .few),
+      eq-eqb s (length (m .records)) (f .all),
+      f .known,
+      le-ltb (length (m .image)) (headSize s) (f .room),
+      le-ltb imageLimit (length (m .image)) (f .short),
+    ) refl
 
 -- ---- what is not lawful is 1, whatever else is not
 
@@ -146,7 +156,7 @@ image-1073741825 l s m e = image-long l s m (omega arith)
 -- ---- cases, on lent memory that holds nonsense
 
 abbrev pub lent : List SignalEncoding → (times image : ℕ) → Memory
-lent ks t i = memory (encoder true 9 9 9 9 9 9 true 9) (map stale ks) (replicate t 99) (99 ∷ []) (replicate i 99)
+lent ks t i = memory staleState (map stale ks) (replicate t 99) (99 ∷ []) (replicate i 99)
 
 bit-fits : (t : ℕ) → 65535 ≤ t → Fits 65535 1 (lent (BitVector 1 ∷ []) t 20)
 unfolding unknownKind
@@ -189,7 +199,7 @@ other-count = (refl, refl)
 -- widths 1 and 4 with B 4, as on the bench sheet: the head, all records at 0, nothing past the head, and the other buffers as they were
 pub started-anew : startOf 4 2 (lent (BitVector 1 ∷ BitVector 4 ∷ []) 5 26)
     ≡ after started
-    (memory (encoder false 4 2 0 0 24 0 false 0) (recordOf (BitVector 1) 0 Two ∷ recordOf (BitVector 4) 0 Two ∷ [])
+    (memory (encoder false 4 2 0 0 24 0 (probeSkip false 0)) (recordOf (BitVector 1) 0 Two ∷ recordOf (BitVector 4) 0 Two ∷ [])
     (99 ∷ 99 ∷ 99 ∷ 99 ∷ 99 ∷ []) (99 ∷ [])
     (2 ∷ 0 ∷ 0 ∷ 0 ∷ 4 ∷ 0 ∷ 0 ∷ 0 ∷ 0 ∷ 0 ∷ 0 ∷ 0 ∷ 24 ∷ 0 ∷ 0 ∷ 0 ∷ 1 ∷ 0 ∷ 0 ∷ 0 ∷ 4 ∷ 0 ∷ 0 ∷ 0 ∷ 99 ∷ 99 ∷ []))
 unfolding le les headBytes unknownKind startTests startOf

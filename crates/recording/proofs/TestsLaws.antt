@@ -49,3 +49,32 @@ guarded-first (t ∷ ts) f e n = by (t .0) n (guarded-first ts f e)
         → pick b (f (t .1)) (guarded ts f e) ≡ f (pick b (t .1) (first ts))
     by true m k = refl
     by false m k = k m
+
+-- a function carried through: it is taken of every refusal, and of what is not refused
+pub guarded-map : {A B : Type 0} (h : A → B) (ts : Tests) (f : ℕ → A) (e : A) → h (guarded ts f e) ≡ guarded ts (λ n. h (f n)) (h e)
+guarded-map h [] f e = refl
+guarded-map h (t ∷ ts) f e = by (t .0) (guarded-map h ts f e)
+  where
+    by : (b : Bool) → h (guarded ts f e) ≡ guarded ts (λ n. h (f n)) (h e)
+        → h (pick b (f (t .1)) (guarded ts f e)) ≡ pick b (h (f (t .1))) (guarded ts (λ n. h (f n)) (h e))
+    by true k = refl
+    by false k = k
+
+-- what is not refused matters only where no test holds
+pub guarded-same : {A : Type 0} (ts : Tests) (f : ℕ → A) (d e : A) → (AllFalse ts → d ≡ e) → guarded ts f d ≡ guarded ts f e
+guarded-same [] f d e h = h tt
+guarded-same (t ∷ ts) f d e h = by (t .0) refl (guarded-same ts f d e)
+  where
+    by : (b : Bool) → t .0 ≡ b → ((AllFalse ts → d ≡ e) → guarded ts f d ≡ guarded ts f e)
+        → pick b (f (t .1)) (guarded ts f d) ≡ pick b (f (t .1)) (guarded ts f e)
+    by true g k = refl
+    by false g k = k (λ n. h (g, n))
+
+-- what holds of no refusal, and holds, holds of what is not refused, and no test holds
+pub guarded-only : {A : Type 0} (P : A → Type 0) (ts : Tests) (f : ℕ → A) (e : A) → ((n : ℕ) → P (f n) → ⊥) → P (guarded ts f e) → AllFalse ts × P e
+guarded-only P [] f e never h = (tt, h)
+guarded-only P (t ∷ ts) f e never h = by (t .0) refl h (guarded-only P ts f e never)
+  where
+    by : (b : Bool) → t .0 ≡ b → P (pick b (f (t .1)) (guarded ts f e)) → (P (guarded ts f e) → AllFalse ts × P e) → AllFalse (t ∷ ts) × P e
+    by true g h k = absurd (never (t .1) h)
+    by false g h k = let r = k h in ((g, r .0), r .1)

@@ -1,4 +1,5 @@
 pub mod Calls
+pub mod State
 pub mod Work
 pub mod Memory
 pub mod Refusals

@@ -12,8 +12,9 @@ use Rattle.value.specs.declared.states.States.the-variants.{Two}
 use Rattle.signal.specs.declared.kind.SignalEncoding.{SignalEncoding}
 use Rattle.signal.specs.declared.kind.SignalEncoding.the-variants.{Absent}
 use Rattle.recording.specs.declared.Encoder.{Encoder}
+use Rattle.recording.specs.declared.Outcome.{Outcome}
 use Rattle.recording.specs.declared.SignalRecord.{SignalRecord}
-use Rattle.recording.specs.Calls.{Reply, refuse}
+use Rattle.recording.specs.Calls.{Reply, refuse, replyOf}
 
 pub record Memory : Type 0 where
   pub state : Encoder
@@ -31,6 +32,10 @@ pub record After : Type 0 where
 
 abbrev pub after : Reply → Memory → After
 after r m = record { reply = r; memory = m }
+
+-- what a call leaves: its answer and state, and the memory that was lent to it
+abbrev pub left : Outcome → List SignalRecord → (times work image : List ℕ) → After
+left o r t w i = after (replyOf (o .answer)) (memory (o .state) r t w i)
 
 abbrev pub recordOf : SignalEncoding → ℕ → States → SignalRecord
 recordOf k i t = record { kind = k; index = i; top = t }

@@ -7,17 +7,22 @@ use lib.ListN.{length, take, replicate}
 use Rattle.value.specs.declared.states.States.the-variants.{Nine}
 use Rattle.signal.specs.declared.kind.SignalEncoding.{SignalEncoding}
 use Rattle.signal.specs.Content.{vcd}
+use Rattle.recording.specs.declared.Encoder.{Encoder}
 use Rattle.recording.specs.declared.SignalRecord.{SignalRecord}
 use Rattle.recording.specs.Calls.{Call, time, change}
 use Rattle.recording.specs.Memory.{Memory, memory, recordOf}
-use Rattle.recording.specs.Step.{encoder, startOf, run, Ran}
+use Rattle.recording.specs.State.{probeSkip, encoder}
+use Rattle.recording.specs.Step.{startOf, run, Ran}
 
--- a record as it may be before a start
+-- a state and a record as they may be before a start
+abbrev pub staleState : Encoder
+staleState = encoder true 9 9 9 9 9 9 (probeSkip true 9)
+
 abbrev pub stale : SignalEncoding → SignalRecord
 stale k = recordOf k 7 Nine
 
 unfoldable pub lent : List SignalEncoding → (times work image : ℕ) → Memory
-lent ks t w i = memory (encoder true 9 9 9 9 9 9 true 9) (map stale ks) (replicate t 99) (replicate w 99) (replicate i 99)
+lent ks t w i = memory staleState (map stale ks) (replicate t 99) (replicate w 99) (replicate i 99)
 
 -- a start and calls, with room for B times, 64 work bytes and 128 image bytes
 unfoldable pub ran : (limit : ℕ) → List SignalEncoding → List Call → Ran

@@ -1,7 +1,7 @@
 -- Document 01, 'Recording' and 'Block and image': what start, time, change and finish do to the state and the lent memory.
 -- Assumes nothing.
 use Prim.Native.Nat.{ℕ, suc, _+_, _-_, max}
-use mathlib.Core.Bool.{Bool, true, false}
+use mathlib.Core.Bool.{true}
 use mathlib.Core.List.{List, [], _∷_, _++_, map}
 use mathlib.Core.Option.{Option, some, none}
 use lib.ListN.{length, take, getD, set}
@@ -18,13 +18,11 @@ use Rattle.image.specs.Block.{Part, Block, part, block, blockBytes}
 use Rattle.image.specs.Head.{headBytes, headSize}
 use Rattle.recording.specs.declared.Encoder.{Encoder}
 use Rattle.recording.specs.declared.SignalRecord.{SignalRecord}
-use Rattle.recording.specs.Calls.{Call, time, change, finish, taken, same, back, recorded, skipped, Reply, say, started, total, Way, above, equal, below, wayOf, counted}
+use Rattle.recording.specs.Calls.{Call, time, change, finish, taken, same, back, recorded, skipped, Reply, say, started, total, Way, above, equal, below, wayOf}
+use Rattle.recording.specs.State.{skipBegun, skipEnded, skipCounted, withClosed, withHeld, withWork, withImage, withBlocks, withSkips, startState}
 use Rattle.recording.specs.Work.{Item, item, itemBytes, itemsOf, gather}
 use Rattle.recording.specs.Memory.{Memory, memory, After, after, recordOf, recordAt, guarded, refused}
 use Rattle.recording.specs.Refusals.{unknownKind, startTests, openTests, earlyTests, signalTests, roomTests}
-
-abbrev pub encoder : (closed : Bool) (limit signals held work image blocks : ℕ) (skip : Bool) (skipped : ℕ) → Encoder
-encoder c l s h w i b k n = record { closed = c; limit = l; signals = s; held = h; work = w; image = i; blocks = b; skip = k; skipped = n }
 
 abbrev pub withState : Memory → Encoder → Memory
 withState m s = memory s (m .records) (m .times) (m .work) (m .image)
@@ -47,12 +45,16 @@ cutBlock m is = block (take (m .state .held) (m .times)) (partsFrom 0 (m .record
 abbrev pub rewound : SignalRecord → SignalRecord
 rewound r = recordOf (r .kind) 0 (r .top)
 
+-- one block more, of so many bytes; the next table has one time, and the work buffer is empty
+abbrev pub withCut : Encoder → (size : ℕ) → Encoder
+withCut s n = withBlocks (withImage (withWork (withHeld s 1) 0) (s .image + n)) (s .blocks + 1)
+
 -- the block from the first unused byte on, then N and total over it (in that order, which shows only where used bytes are altered to
 -- less than a head); the next table begins with the old last time, after a finish too; the work buffer is empty
 abbrev pub cutIn : Memory → List ℕ → Memory
 cutIn m b =
     let s = m .state in
-    memory (encoder (s .closed) (s .limit) (s .signals) 1 0 (s .image + length b) (s .blocks + 1) (s .skip) (s .skipped))
+    memory (withCut s (length b))
     (map rewound (m .records))
     (set (m .times) 0 (getD (m .times) (s .held - 1) 0))
     (m .work)
@@ -74,14 +76,14 @@ cutOf m = cutItems m (itemsOf (m .state .work) (m .state .signals) (take (m .sta
 -- ---- time
 
 -- a taken time joins the table and ends a skip
+abbrev pub timedState : Encoder → Encoder
+timedState s = withSkips (withHeld s (s .held + 1)) (skipEnded (s .skips))
+
 abbrev pub timed : Memory → ℕ → Memory
-timed m t =
-    let s = m .state in
-    memory (encoder (s .closed) (s .limit) (s .signals) (s .held + 1) (s .work) (s .image) (s .blocks) false (s .skipped))
-    (m .records) (set (m .times) (s .held) t) (m .work) (m .image)
+timed m t = memory (timedState (m .state)) (m .records) (set (m .times) (m .state .held) t) (m .work) (m .image)
 
 abbrev pub skipping : Encoder → Encoder
-skipping s = encoder (s .closed) (s .limit) (s .signals) (s .held) (s .work) (s .image) (s .blocks) true (s .skipped)
+skipping s = withSkips s (skipBegun (s .skips))
 
 abbrev pub timeCut : Memory → ℕ → Cut → After
 timeCut m t (noCut n) = refused m n
@@ -99,14 +101,14 @@ timeOf m t = guarded (openTests m) (refused m) (timeBy m t (wayOf (take (m .stat
 -- ---- change
 
 abbrev pub skippedOne : Encoder → Encoder
-skippedOne s = encoder (s .closed) (s .limit) (s .signals) (s .held) (s .work) (s .image) (s .blocks) (s .skip) (counted (s .skipped))
+skippedOne s = withSkips s (skipCounted (s .skips))
 
 -- the signal's record has the last time's index and a top class of at least c; the work buffer has the change's record
 abbrev pub recordedIn : Memory → (signal : ℕ) → (stream : List ℕ) → (c : ℕ) → Memory
 recordedIn m g b c =
     let s = m .state in
     let r = recordAt m g in
-    memory (encoder (s .closed) (s .limit) (s .signals) (s .held) (s .work + (8 + length b)) (s .image) (s .blocks) (s .skip) (s .skipped))
+    memory (withWork s (s .work + (8 + length b)))
     (set (m .records) g (recordOf (r .kind) (s .held - 1) (statesOf (max (classNumber (r .top)) c))))
     (m .times)
     (sets (m .work) (s .work) (itemBytes (item g b)))
@@ -124,14 +126,14 @@ unfoldable pub changeOf : Memory → (signal : ℕ) → Given → After
 changeOf m g v =
     guarded (openTests m) (refused m)
     (guarded (earlyTests (m .state)) (refused m)
-    (pick (m .state .skip) (after (say skipped) (withState m (skippedOne (m .state))))
+    (pick (m .state .skips .on) (after (say skipped) (withState m (skippedOne (m .state))))
     (guarded (signalTests (m .state) (recordAt m g) g) (refused m)
     (changeBy m g (decode (recordAt m g .kind) v)))))
 
 -- ---- finish
 
 abbrev pub closedNow : Encoder → Encoder
-closedNow s = encoder true (s .limit) (s .signals) (s .held) (s .work) (s .image) (s .blocks) (s .skip) (s .skipped)
+closedNow s = withClosed s true
 
 abbrev pub closing : Memory → After
 closing m = after (total (m .state .image)) (withState m (closedNow (m .state)))
@@ -160,7 +162,7 @@ unfoldable pub startOf : (limit signals : ℕ) → Memory → After
 startOf limit signals m =
     guarded (startTests limit signals (length (m .records)) (unknownKind (m .records)) (length (m .times)) (length (m .image))) (refused m)
     (after started
-    (memory (encoder false limit signals 0 0 (headSize signals) 0 false 0)
+    (memory (startState limit signals)
     (map fresh (m .records)) (m .times) (m .work)
     (sets (m .image) 0 (headBytes limit 0 (headSize signals) (kindsOf (m .records))))))
 

@@ -3,15 +3,22 @@
 // What each call does to them is defined in specs/Step.antt; the refusals by tests stand in specs/Refusals.antt.
 use signal::kind::SignalEncoding;
 use value::states::States;
+ghost use mathlib.Core.Path.{_≡_};
+ghost use Rattle.recording.specs.Step as step;
 
-// A signal by its number.
-pub struct SignalRef(pub u32);
+pub mod state;
 
 // A signal's kind, the time index of its last change in the block (0 if it has none), and its top class.
 pub struct SignalRecord {
     pub kind: SignalEncoding,
     pub index: u32,
     pub top: States,
+}
+
+// Of the probe that sends times and changes: they are skipped since a time went back; how many changes were, which stays at its top.
+pub struct ProbeSkip {
+    pub on: bool,
+    pub count: u32,
 }
 
 // A recording between two calls. Buffers are lent at each call; here is how much of each is used.
@@ -29,10 +36,7 @@ pub struct Encoder {
     pub image: u32,
     // N.
     pub blocks: u32,
-    // Changes are skipped since a time went back.
-    pub skip: bool,
-    // How many changes were skipped; it stays at its top.
-    pub skipped: u32,
+    pub skips: ProbeSkip,
 }
 
 // What a call of a recording answers.
@@ -47,4 +51,43 @@ pub enum Answer {
     Finished(u32),
     // The refusal's number.
     Refused(u32),
+}
+
+// What a call answers, and the state after it.
+pub struct Outcome {
+    pub answer: Answer,
+    pub state: Encoder,
+}
+
+// The lengths of the memory that is lent to a call, but for the work buffer's.
+pub struct Lengths {
+    pub records: usize,
+    pub times: usize,
+    pub image: usize,
+}
+
+// The record at the start of a recording: index and class are 0.
+pub fn fresh(record: SignalRecord) -> SignalRecord
+    ensures { λ r. ⌜ r ≡ step.fresh «record» ⌝ }
+{
+    let kind = record.kind;
+    let top = States::Two;
+    SignalRecord {
+        kind,
+        index: 0,
+        top,
+    }
+}
+
+// The record after a cut: the index is 0 again, the top class stays.
+pub fn rewound(record: SignalRecord) -> SignalRecord
+    ensures { λ r. ⌜ r ≡ step.rewound «record» ⌝ }
+{
+    let kind = record.kind;
+    let top = record.top;
+    SignalRecord {
+        kind,
+        index: 0,
+        top,
+    }
 }

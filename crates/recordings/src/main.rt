@@ -1,4 +1,4 @@
-// Replays recordings that the Rust answered (oracle/recordings.in, recordings.out). None has a refusal.
+// Replays recordings that the Rust answered (its stdin, and its stdout). None has a refusal.
 fn main() {
-    sheet::replay();
+    sheet::tests::replay(0);
 }

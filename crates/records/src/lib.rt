@@ -2,9 +2,9 @@
 //
 // Each function moves whole records; what is decided of one record stands in functions by value.
 use recording::SignalRecord;
-use recording::SignalRef;
+use signal::SignalRef;
 use signal::kind::SignalEncoding;
-use storage::known_kind;
+use signal::kind::known_kind;
 use value::states::States;
 ghost use mathlib.Core.Path.{_≡_};
 ghost use mathlib.Core.Bool.{_||_, not};

@@ -2,38 +2,37 @@
 //
 // Each function answers the number of the first refusal that holds, 0 where none does; the contracts cite the tables of
 // recording/specs/Refusals.antt.
+use image::layout::head_size;
+use image::limits::MAX_LIMIT;
+use image::limits::MAX_SIGNALS;
+use image::limits::MAX_TOTAL;
+use image::limits::MIN_LIMIT;
 use recording::Encoder;
+use recording::Lengths;
 ghost use mathlib.Core.Path.{_≡_};
 ghost use lib.ListN.{drop};
 ghost use Rattle.recording.specs.Memory.{first};
 ghost use Rattle.recording.specs.Refusals.{startTests, stateTests};
 
-// The lengths of the memory that is lent to a call, but for the work buffer's.
-pub struct Lengths {
-    pub records: usize,
-    pub times: usize,
-    pub image: usize,
-}
-
 // 1: what is not lawful in a start. unknown tells of a record whose kind is unknown.
 pub fn start_refusal(limit: u32, signals: u32, unknown: bool, lent: Lengths) -> u32
     ensures { λ r. ⌜ r ≡ first (startTests limit signals (lent .records) unknown (lent .times) (lent .image)) ⌝ }
 {
-    if limit < 2 {
+    if limit < MIN_LIMIT {
         1
-    } else if 65535 < limit {
+    } else if MAX_LIMIT < limit {
         1
     } else if lent.times < limit as usize {
         1
-    } else if 65536 < signals {
+    } else if MAX_SIGNALS < signals {
         1
     } else if signals as usize != lent.records {
         1
     } else if unknown {
         1
-    } else if lent.image < 16 + 4 * signals as usize {
+    } else if lent.image < head_size(signals as usize) {
         1
-    } else if 1073741824 < lent.image {
+    } else if MAX_TOTAL < lent.image {
         1
     } else {
         0
@@ -48,7 +47,7 @@ fn counts_refusal(state: Encoder, lent: Lengths, work: usize) -> u32
         10
     } else if lent.image < state.image as usize {
         10
-    } else if 1073741824 < lent.image {
+    } else if MAX_TOTAL < lent.image {
         10
     } else if state.image < state.blocks {
         10
@@ -69,9 +68,9 @@ pub fn state_refusal(state: Encoder, lent: Lengths, work: usize) -> u32
 {
     if state.closed {
         2
-    } else if state.limit < 2 {
+    } else if state.limit < MIN_LIMIT {
         10
-    } else if 65535 < state.limit {
+    } else if MAX_LIMIT < state.limit {
         10
     } else if state.limit < state.held {
         10

@@ -11,7 +11,7 @@ use Rattle.signal.specs.declared.kind.SignalEncoding.the-variants.{Real}
 use Rattle.signal.specs.declared.decode.ChangeValue.{ChangeValue}
 use Rattle.stream.specs.Stream.{changeBytes}
 use Rattle.stream.specs.Answer.{Says, saidBytes, changeLength}
-use Rattle.stream.proofs.SaysLaws.{says-length}
+use Rattle.stream.proofs.LengthLaws.{says-length}
 
 pub room : (k : SignalEncoding) (d : ℕ) (g : Given) (v : ChangeValue) (w l n : ℕ) → GivenFits g → Says k g v → w ≡ widthOf k → l ≡ changeLength w d v
     → l ≤ n → 0 + length (saidBytes k d g) ≤ n

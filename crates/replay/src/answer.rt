@@ -2,26 +2,27 @@
 use crate::question::Question;
 use crate::question::parse;
 use libc::STDOUT_FILENO;
-use packed::bytes_required;
-use packed::unpack;
+use packed_symbols::bytes_required;
+use packed_symbols::unpack;
 use signal::decode::ChangeValue;
 use signal::decode::DecodedChange;
-use signal::decode::decode_raw;
-use signal::decode::decode_real;
-use signal::decode::decode_vcd;
 use signal::kind::SignalEncoding;
+use signal_decode::decode_raw;
+use signal_decode::decode_real;
+use signal_decode::decode_vcd;
 use stream::read::ReadChange;
-use stream::read::read_change;
-use stream::write::change_len;
-use stream::write::put_raw_change;
-use stream::write::put_real_change;
-use stream::write::put_vcd_change;
+use stream_length::change_len;
+use stream_read::read_change;
+use stream_write::put_raw_change;
+use stream_write::put_real_change;
+use stream_write::put_vcd_change;
 use text::before;
 use text::byte_at;
 use text::number::big_endian;
 use text::number::hex_bytes;
 use text::print;
 use text::print_bytes;
+use text::print_number;
 use text::wide;
 use text::word;
 use value::states::States;
@@ -146,21 +147,23 @@ fn print_read(stream: &[u8], kind: SignalEncoding, d: u32) {
     }
 }
 
+fn print_change(top: u8, stream: &[u8], kind: SignalEncoding, d: u32) {
+    print_number(wide(top));
+    print(b" ");
+    print_bytes(stream);
+    print(b" ");
+    print_read(stream, kind, d);
+    print(b"\n");
+}
+
 pub fn answer(line: &[u8]) {
     let q = parse(line);
     let mut value = [0u8; 256];
     let size = hex_bytes(&mut value, word(line, q.hex));
     let mut stream = [0u8; 256];
+    let kind = q.kind;
     match write(&mut stream, q, before(&value, size)) {
         Written::Bad => print(b"bad\n"),
-        Written::Change(top, end) => {
-            io::print_decimal(STDOUT_FILENO, wide(top));
-            print(b" ");
-            print_bytes(before(&stream, end));
-            print(b" ");
-            let kind = q.kind;
-            print_read(before(&stream, end), kind, q.d);
-            print(b"\n");
-        }
+        Written::Change(top, end) => print_change(top, before(&stream, end), kind, q.d),
     }
 }

@@ -17,8 +17,12 @@ fn replay(s: &[u8]) {
     }
 }
 
+fn zeros() -> [u8; 262144] {
+    [0u8; 262144]
+}
+
 fn main() {
-    let mut input = [0u8; 262144];
+    let mut input = zeros();
     let n = io::read_full(STDIN_FILENO, &mut input);
     replay(&input[..n]);
 }

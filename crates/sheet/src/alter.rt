@@ -1,104 +1,115 @@
-// What another hand does to the state and to lent memory between two calls.
-use crate::record::kind_number;
-use crate::record::stored;
+// Which line is what, and what another hand does to the state and to lent memory between two calls.
+use crate::run::CALL;
+use crate::run::FINISH;
 use crate::run::Run;
-use crate::run::lent_by;
-use crate::run::with_state;
-use recording::Encoder;
-use text::number::hex_bytes;
+use crate::run::START;
+use crate::run::lend;
+use crate::run::put_call;
+use crate::run::take_line;
+use line::hex::put_hex;
+use line::words::spells;
+use line::words::word;
 use text::number::number;
-use text::spells;
-use text::word;
 
-fn with_field(state: Encoder, field: &[u8], n: u64) -> Encoder {
-    let mut s = state;
-    let low = (n % 4294967296) as u32;
-    if spells(field, b"closed") {
-        s.closed = n != 0;
+// What is to be done for a line, beside what `read` does.
+pub const NOTHING: u64 = 0;
+
+pub const MAKE: u64 = 1;
+
+pub const RECORD: u64 = 2;
+
+pub const WORK: u64 = 3;
+
+pub const IMAGE: u64 = 4;
+
+// The place of a name in a row of so many; past them where it is none of them.
+fn place_of(name: &[u8], names: &[u8], count: usize) -> usize {
+    let mut k = 0;
+    while k < count {
+        if spells(name, word(names, k)) {
+            return k;
+        }
+        k += 1;
     }
-    if spells(field, b"limit") {
-        s.limit = low;
-    }
-    if spells(field, b"signals") {
-        s.signals = low;
-    }
-    if spells(field, b"held") {
-        s.held = low;
-    }
-    if spells(field, b"work") {
-        s.work = n;
-    }
-    if spells(field, b"image") {
-        s.image = low;
-    }
-    if spells(field, b"blocks") {
-        s.blocks = low;
-    }
-    if spells(field, b"skip") {
-        s.skip = n != 0;
-    }
-    if spells(field, b"skipped") {
-        s.skipped = low;
-    }
-    s
+    k
+}
+
+fn number_at(line: &[u8], k: usize) -> u64 {
+    number(word(line, k))
+}
+
+// `lend TIMES WORK IMAGE`.
+fn take_lend(run: &mut Run, line: &[u8]) -> u64 {
+    lend(
+        run,
+        number_at(line, 1),
+        number_at(line, 2),
+        number_at(line, 3),
+    );
+    NOTHING
+}
+
+// The place of a field of the state.
+fn field_of(name: &[u8]) -> usize {
+    place_of(
+        name,
+        b"closed limit signals held work image blocks skip skipped",
+        9,
+    )
+}
+
+// `start S B KIND ..`.
+fn take_start(run: &mut Run, line: &[u8]) -> u64 {
+    put_call(run, START, number_at(line, 1), number_at(line, 2));
+    MAKE
 }
 
 // `set FIELD N`; false is 0.
-fn set_field(run: Run, line: &[u8]) -> Run {
-    let state = run.state;
-    let altered = with_field(state, word(line, 1), number(word(line, 2)));
-    with_state(run, altered, run.records)
-}
-
-// `record SIGNAL KIND INDEX TOP`.
-fn put_record(records: &mut [u64], line: &[u8]) {
-    let signal = number(word(line, 1)) as usize;
-    if signal < records.len() {
-        records[signal] = stored(
-            kind_number(word(line, 2)),
-            number(word(line, 3)),
-            number(word(line, 4)),
-        );
+fn set_field(run: &mut Run, line: &[u8]) -> u64 {
+    let field = field_of(word(line, 1));
+    if field < 9 {
+        run[field] = number_at(line, 2);
     }
-}
-
-// Writes the bytes of hexadecimal digits from a place on.
-fn put_hex(buffer: &mut [u8], place: usize, hex: &[u8]) {
-    if place <= buffer.len() {
-        hex_bytes(&mut buffer[place..], hex);
-    }
+    NOTHING
 }
 
 // `poke BUFFER PLACE HEX`; the buffer is `work` or `image`.
-fn poke(work: &mut [u8], image: &mut [u8], line: &[u8]) {
-    let place = number(word(line, 2)) as usize;
+fn poked(line: &[u8]) -> u64 {
     if spells(word(line, 1), b"work") {
-        return put_hex(work, place, word(line, 3));
+        return WORK;
     }
-    put_hex(image, place, word(line, 3))
+    IMAGE
 }
 
-// The run after a line that is no call.
-pub fn altered(
-    run: Run,
-    line: &[u8],
-    records: &mut [u64],
-    work: &mut [u8],
-    image: &mut [u8],
-) -> Run {
-    let name = word(line, 0);
-    if spells(name, b"lend") {
-        return lent_by(run, line);
+// A line of the crate line.
+fn read_call(run: &mut Run, line: &[u8]) -> u64 {
+    take_line(run, line);
+    if run[CALL] <= FINISH {
+        return MAKE;
     }
-    if spells(name, b"set") {
-        return set_field(run, line);
+    NOTHING
+}
+
+fn name_of(line: &[u8]) -> usize {
+    place_of(word(line, 0), b"lend start set record poke", 5)
+}
+
+// Takes a line into the run, and answers what is left to be done.
+pub fn read(run: &mut Run, line: &[u8]) -> u64 {
+    match name_of(line) {
+        0 => take_lend(run, line),
+        1 => take_start(run, line),
+        2 => set_field(run, line),
+        3 => RECORD,
+        4 => poked(line),
+        _ => read_call(run, line),
     }
-    if spells(name, b"record") {
-        put_record(records, line);
-        return run;
+}
+
+// Writes the bytes of a poke.
+pub fn poke(buffer: &mut [u8], line: &[u8]) {
+    let place = number_at(line, 2) as usize;
+    if place <= buffer.len() {
+        put_hex(&mut buffer[place..], word(line, 3));
     }
-    if spells(name, b"poke") {
-        poke(work, image, line);
-    }
-    run
 }

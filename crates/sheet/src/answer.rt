@@ -1,39 +1,59 @@
-// Answers, one to a line; after a finish the image too.
-use libc::STDOUT_FILENO;
-use recording::Answer;
+// What is printed.
+use crate::run::ANSWER;
+use crate::run::FINISHED;
+use crate::run::NUMBER;
+use crate::run::REFUSED;
+use crate::run::Run;
+use crate::run::SKIPPED;
+use line::words::word;
 use text::before;
 use text::print;
 use text::print_bytes;
+use text::print_number;
 
-fn print_finished(total: u32, skipped: u32, image: &[u8]) {
-    print(b"finished ");
-    io::print_decimal(STDOUT_FILENO, total as u64);
-    print(b" skipped ");
-    io::print_decimal(STDOUT_FILENO, skipped as u64);
-    print(b"\nimage ");
-    print_bytes(before(image, total as usize));
+fn print_count(name: &[u8], n: u64) {
+    print(name);
+    print_number(n);
+}
+
+// The word of an answer, by its place in `Answer`.
+fn print_word(answer: u64) {
+    print(word(
+        b"started taken same back recorded skipped finished refused",
+        answer as usize,
+    ));
+}
+
+// The answer of the last call, without a line feed.
+pub fn print_answer(run: &Run) {
+    let answer = run[ANSWER];
+    print_word(answer);
+    if answer < FINISHED {
+        return;
+    }
+    print_count(b" ", run[NUMBER]);
+    if answer == FINISHED {
+        print_count(b" skipped ", run[SKIPPED]);
+    }
+}
+
+// An image, as digits on a line.
+pub fn print_image(image: &[u8]) {
+    print(b"image ");
+    print_bytes(image);
     print(b"\n");
 }
 
-// A refusal tells if anything moved.
-fn print_refused(number: u32, moved: bool) {
-    print(b"refused ");
-    io::print_decimal(STDOUT_FILENO, number as u64);
-    if moved {
-        print(b" changed");
+// The answer of the last call on a line. A refusal tells if anything moved, and a finish is followed by the image.
+pub fn print_made(run: &Run, moved: bool, image: &[u8]) {
+    print_answer(run);
+    if run[ANSWER] == REFUSED {
+        if moved {
+            print(b" changed");
+        }
     }
     print(b"\n");
-}
-
-pub fn print_answer(answer: Answer, moved: bool, skipped: u32, image: &[u8]) {
-    match answer {
-        Answer::Started => print(b"started\n"),
-        Answer::Taken => print(b"taken\n"),
-        Answer::Same => print(b"same\n"),
-        Answer::Back => print(b"back\n"),
-        Answer::Recorded => print(b"recorded\n"),
-        Answer::Skipped => print(b"skipped\n"),
-        Answer::Finished(total) => print_finished(total, skipped, image),
-        Answer::Refused(number) => print_refused(number, moved),
+    if run[ANSWER] == FINISHED {
+        print_image(before(image, run[NUMBER] as usize));
     }
 }

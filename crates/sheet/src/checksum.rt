@@ -1,5 +1,6 @@
 // A number by which memory is held against what it was: where one place alone differs, so does the number.
-use recording::Encoder;
+use crate::run::OWN;
+use crate::run::Run;
 use text::wide;
 
 // The multiplier is odd, so no difference is lost at 2^54.
@@ -32,24 +33,22 @@ fn mixed_bytes(sum: u64, s: &[u8]) -> u64 {
     r
 }
 
-fn flag(b: bool) -> u64 {
-    if b {
-        return 1;
+// The state.
+fn mixed_state(run: &Run) -> u64 {
+    let mut r = 0;
+    let mut i = 0;
+    while i < 9 {
+        r = mixed_wide(r, run[i]);
+        i += 1;
     }
-    0
+    r
 }
 
-fn mixed_state(state: Encoder) -> u64 {
-    let flags = mixed(flag(state.closed), flag(state.skip));
-    let counts = mixed(
-        mixed(mixed(flags, state.limit as u64), state.signals as u64),
-        state.held as u64,
-    );
-    let used = mixed(mixed_wide(counts, state.work), state.image as u64);
-    mixed(mixed(used, state.blocks as u64), state.skipped as u64)
-}
-
-pub fn checksum(state: Encoder, records: &[u64], times: &[u64], work: &[u8], image: &[u8]) -> u64 {
-    let sum = mixed_numbers(mixed_numbers(mixed_state(state), records), times);
+// The number of the state and of all memory; 0 where none is held against it.
+pub fn checksum(run: &Run, records: &[u64], times: &[u64], work: &[u8], image: &[u8]) -> u64 {
+    if run[OWN] == 0 {
+        return 0;
+    }
+    let sum = mixed_numbers(mixed_numbers(mixed_state(run), records), times);
     mixed_bytes(mixed_bytes(sum, work), image)
 }

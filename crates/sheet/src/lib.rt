@@ -1,78 +1,96 @@
-// A sheet of calls, made on the recorder one after the other. Standard input has one call to a line; each is answered on standard output,
-// as oracle/README.md and oracle/recorder.py say. After a refusal the state and all that was lent are held against their checksum.
+// Calls of a sheet, made on the recorder and answered: what the programs that run a sheet have in common. What a line says is read by the
+// crate line; which lines a program takes beside the calls, it says itself. The module tests has a whole run for the test programs.
 mod alter;
-mod answer;
-mod call;
+pub mod answer;
+mod calls;
 mod checksum;
 mod make;
 mod record;
-mod recorder;
-mod run;
+pub mod run;
+pub mod tests;
 
-use alter::altered;
-use call::is_call;
-use libc::STDIN_FILENO;
-use make::make_call;
-use make::make_start;
+use calls::perform;
+use line::words::after;
+use run::CALL;
+use run::FIRST;
+use run::IMAGE;
+use run::RAW;
+use run::RECORDS;
 use run::Run;
-use run::fresh_run;
-use text::between;
-use text::byte_at;
-use text::past;
-use text::spells;
-use text::word;
+use run::SECOND;
+use run::TIMES;
+use run::WORK;
+use run::put_outcome;
+use run::state_of;
+ghost use Prim.Native.Nat.{_≤_};
+ghost use lib.ListN.{length};
 
-// A line is a call, or says how memory is lent or what another hand does to it; or nothing, if it is empty or begins with #.
-fn take_line(
-    run: Run,
-    line: &[u8],
-    records: &mut [u64],
-    times: &mut [u64],
-    work: &mut [u8],
-    image: &mut [u8],
-) -> Run {
-    if byte_at(line, 0) <= b'#' {
-        return run;
+// The first so many numbers, or all.
+pub fn lent_numbers(s: &mut [u64], n: u64) -> &mut [u64] {
+    let end = n as usize;
+    if s.len() < end {
+        return s;
     }
-    if spells(word(line, 0), b"start") {
-        return make_start(run, line, records, times, work, image);
-    }
-    if is_call(word(line, 0)) {
-        return make_call(run, line, records, times, work, image);
-    }
-    altered(run, line, records, work, image)
+    &mut s[0..end]
 }
 
-// Takes each line. The text ends in a line feed.
-fn take_lines(
-    sheet: &[u8],
+// The first so many bytes, or all.
+pub fn lent_bytes(s: &mut [u8], n: u64) -> &mut [u8] {
+    let end = n as usize;
+    if s.len() < end {
+        return s;
+    }
+    &mut s[0..end]
+}
+
+// Makes the call that the run holds on the lent part of each buffer; value is the text of a VCD value, or the bytes of a raw one. The run
+// holds the answer then.
+pub fn make_call(
+    run: &mut Run,
+    value: &[u8],
     records: &mut [u64],
     times: &mut [u64],
     work: &mut [u8],
     image: &mut [u8],
 ) {
-    let mut run = fresh_run();
-    let mut at = 0;
-    while at < sheet.len() {
-        let end = past(sheet, at, b'\n');
-        let line = between(sheet, at, end);
-        at = end;
-        run = take_line(run, line, records, times, work, image);
+    let state = state_of(&*run);
+    let r = run[RECORDS];
+    let t = run[TIMES];
+    let w = run[WORK];
+    let i = run[IMAGE];
+    let outcome = perform(
+        run[CALL],
+        run[FIRST],
+        run[SECOND],
+        value,
+        state,
+        lent_numbers(records, r),
+        lent_numbers(times, t),
+        lent_bytes(work, w),
+        lent_bytes(image, i),
+    );
+    put_outcome(run, outcome)
+}
+
+// The digits of a line's value, where values are given in hexadecimal.
+pub fn value_digits<'a>(run: &Run, line: &'a [u8]) -> &'a [u8] {
+    if run[CALL] == RAW {
+        return after(line, 3);
     }
+    after(line, 2)
 }
 
-// Makes the calls of a sheet in memory of its own.
-fn take_sheet(sheet: &[u8]) {
-    let mut records = [0u64; 65537];
-    let mut times = [0u64; 65536];
-    let mut work = [0u8; 65536];
-    let mut image = [0u8; 262164];
-    take_lines(sheet, &mut records, &mut times, &mut work, &mut image);
-}
-
-// Replays the sheet on standard input.
-pub fn replay() {
-    let mut sheet = [0u8; 262144];
-    let n = io::read_full(STDIN_FILENO, &mut sheet);
-    take_sheet(&sheet[..n]);
+// The place of the next line feed; the end where there is none.
+pub fn line_end(sheet: &[u8], at: usize) -> usize
+    requires { ⌜ at ≤ length (now sheet) ⌝ }
+    ensures { λ r. ⌜ (at ≤ r) × (r ≤ length (now (sheet .entry))) ⌝ }
+{
+    let mut i = at;
+    while i < sheet.len() {
+        if sheet[i] == b'\n' {
+            return i;
+        }
+        i += 1;
+    }
+    i
 }

@@ -1,12 +1,12 @@
 // Signal records as the recorder stores them (crate storage): kind + 2^32 * (3 * index + class).
+use line::words::word;
 use text::after;
 use text::byte_at;
 use text::number::number;
 use text::past;
-use text::word;
 
 // The number of a kind: `real`, `absent`, `event` or a width.
-pub fn kind_number(kind: &[u8]) -> u64 {
+fn kind_number(kind: &[u8]) -> u64 {
     if byte_at(kind, 0) == b'r' {
         return 0xfffffffe;
     }
@@ -16,9 +16,13 @@ pub fn kind_number(kind: &[u8]) -> u64 {
     number(kind)
 }
 
-pub fn stored(kind: u64, index: u64, class: u64) -> u64 {
+fn stored(kind: u64, index: u64, class: u64) -> u64 {
     let high = index % 4294967296 * 3 + class % 3;
     kind % 4294967296 + high % 4294967296 * 4294967296
+}
+
+pub fn no_records() -> [u64; 65537] {
+    [0u64; 65537]
 }
 
 // How many records a kind stands for: `KIND*COUNT`.
@@ -59,4 +63,16 @@ pub fn put_records(records: &mut [u64], line: &[u8]) -> usize {
         k += 1;
     }
     n
+}
+
+// `record SIGNAL KIND INDEX TOP`.
+pub fn put_record(records: &mut [u64], line: &[u8]) {
+    let signal = number(word(line, 1)) as usize;
+    if signal < records.len() {
+        records[signal] = stored(
+            kind_number(word(line, 2)),
+            number(word(line, 3)),
+            number(word(line, 4)),
+        );
+    }
 }

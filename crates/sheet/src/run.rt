@@ -1,67 +1,180 @@
-// What a run of a sheet holds between two lines: the state, how many records the recording has, and how much of each buffer is lent, from
-// its start.
+// What a run of a sheet holds between two lines, as numbers in one array that the program owns and lends to each function: the fields of a
+// struct would be carried through the proof of every function between.
+use line::Command;
+use line::read_line;
+use recording::Answer;
 use recording::Encoder;
-use text::number::number;
-use text::word;
+use recording::Outcome;
+use recording::ProbeSkip;
 
-pub struct Lent {
-    pub times: usize,
-    pub work: usize,
-    pub image: usize,
-}
+pub type Run = [u64; 20];
 
-pub struct Run {
-    pub state: Encoder,
-    pub records: usize,
-    pub lent: Lent,
-}
+// The state's fields, in the order of `Encoder`, the skip's last; flags are 0 or 1.
+pub const CLOSED: usize = 0;
+
+pub const LIMIT: usize = 1;
+
+pub const TOTAL: usize = 5;
+
+pub const SKIPPED: usize = 8;
+
+// How many records the recording has; how many times, work bytes and image bytes are lent.
+pub const RECORDS: usize = 9;
+
+pub const TIMES: usize = 10;
+
+pub const WORK: usize = 11;
+
+pub const IMAGE: usize = 12;
+
+// The last answer, by its place in `Answer`, and the number in it.
+pub const ANSWER: usize = 13;
+
+pub const NUMBER: usize = 14;
+
+// What the last line asks for, and the numbers of a call: S and B, the time, or the signal, and the claim or the bits.
+pub const CALL: usize = 15;
+
+pub const FIRST: usize = 16;
+
+pub const SECOND: usize = 17;
+
+// For the program's own use: a flag of its run, and a number that it keeps over a call.
+pub const OWN: usize = 18;
+
+pub const KEPT: usize = 19;
+
+// What a line asks for.
+pub const START: u64 = 0;
+
+pub const TIME: u64 = 1;
+
+pub const VCD: u64 = 2;
+
+pub const RAW: u64 = 3;
+
+pub const REAL: u64 = 4;
+
+pub const FINISH: u64 = 5;
+
+pub const NOTHING: u64 = 6;
+
+pub const NOT_UNDERSTOOD: u64 = 7;
+
+// Answers, by their places.
+pub const STARTED: u64 = 0;
+
+pub const FINISHED: u64 = 6;
+
+pub const REFUSED: u64 = 7;
 
 // Before the first start nothing is open.
-pub fn fresh_run() -> Run {
-    let state = Encoder {
-        closed: true,
-        limit: 0,
-        signals: 0,
-        held: 0,
-        work: 0,
-        image: 0,
-        blocks: 0,
-        skip: false,
-        skipped: 0,
-    };
-    let lent = Lent {
-        times: 65535,
-        work: 16384,
-        image: 16384,
-    };
-    Run {
-        state,
-        records: 0,
-        lent,
+pub fn fresh_run(times: u64, work: u64, image: u64) -> Run {
+    let mut run = [0u64; 20];
+    run[CLOSED] = 1;
+    run[TIMES] = times;
+    run[WORK] = work;
+    run[IMAGE] = image;
+    run
+}
+
+pub fn low(n: u64) -> u32 {
+    (n % 4294967296) as u32
+}
+
+pub fn state_of(run: &Run) -> Encoder {
+    Encoder {
+        closed: run[CLOSED] != 0,
+        limit: low(run[LIMIT]),
+        signals: low(run[2]),
+        held: low(run[3]),
+        work: run[4],
+        image: low(run[TOTAL]),
+        blocks: low(run[6]),
+        skips: ProbeSkip {
+            on: run[7] != 0,
+            count: low(run[SKIPPED]),
+        },
     }
 }
 
-// `lend TIMES WORK IMAGE`.
-pub fn lent_by(run: Run, line: &[u8]) -> Run {
-    let state = run.state;
-    let lent = Lent {
-        times: number(word(line, 1)) as usize,
-        work: number(word(line, 2)) as usize,
-        image: number(word(line, 3)) as usize,
-    };
-    Run {
-        state,
-        records: run.records,
-        lent,
+fn flag(b: bool) -> u64 {
+    if b {
+        return 1;
+    }
+    0
+}
+
+pub fn put_state(run: &mut Run, state: Encoder) {
+    run[CLOSED] = flag(state.closed);
+    run[LIMIT] = state.limit as u64;
+    run[2] = state.signals as u64;
+    run[3] = state.held as u64;
+    run[4] = state.work;
+    run[TOTAL] = state.image as u64;
+    run[6] = state.blocks as u64;
+    run[7] = flag(state.skips.on);
+    run[SKIPPED] = state.skips.count as u64;
+}
+
+fn place_of(answer: Answer) -> u64 {
+    match answer {
+        Answer::Started => STARTED,
+        Answer::Taken => 1,
+        Answer::Same => 2,
+        Answer::Back => 3,
+        Answer::Recorded => 4,
+        Answer::Skipped => 5,
+        Answer::Finished(_) => FINISHED,
+        Answer::Refused(_) => REFUSED,
+    }
+}
+
+fn number_of(answer: Answer) -> u64 {
+    match answer {
+        Answer::Finished(total) => total as u64,
+        Answer::Refused(number) => number as u64,
+        _ => 0,
     }
 }
 
 // The run after a call.
-pub fn with_state(run: Run, state: Encoder, records: usize) -> Run {
-    let lent = run.lent;
-    Run {
-        state,
-        records,
-        lent,
+pub fn put_outcome(run: &mut Run, outcome: Outcome) {
+    let answer = outcome.answer;
+    let state = outcome.state;
+    run[ANSWER] = place_of(answer);
+    run[NUMBER] = number_of(answer);
+    put_state(run, state)
+}
+
+pub fn put_call(run: &mut Run, call: u64, first: u64, second: u64) {
+    run[CALL] = call;
+    run[FIRST] = first;
+    run[SECOND] = second;
+}
+
+pub fn lend(run: &mut Run, times: u64, work: u64, image: u64) {
+    run[CALL] = NOTHING;
+    run[TIMES] = times;
+    run[WORK] = work;
+    run[IMAGE] = image;
+}
+
+fn put_command(run: &mut Run, command: Command) {
+    match command {
+        Command::Nothing => run[CALL] = NOTHING,
+        Command::Lend(times, work, image) => lend(run, times, work, image),
+        Command::Start(signals, limit) => put_call(run, START, signals as u64, limit as u64),
+        Command::Time(time) => put_call(run, TIME, time, 0),
+        Command::Vcd(signal) => put_call(run, VCD, signal as u64, 0),
+        Command::Raw(signal, claim) => put_call(run, RAW, signal as u64, claim as u64),
+        Command::Real(signal, bits) => put_call(run, REAL, signal as u64, bits),
+        Command::Finish => run[CALL] = FINISH,
+        Command::NotUnderstood => run[CALL] = NOT_UNDERSTOOD,
     }
+}
+
+// The run with what a line says.
+pub fn take_line(run: &mut Run, line: &[u8]) {
+    put_command(run, read_line(line))
 }

@@ -1,4 +1,3 @@
 pub mod DecodeLaws
-pub mod AnswerLaws
 pub mod SayLaws
 pub mod Cases

@@ -1,6 +1,6 @@
 // Kinds of signals, after wellen's SignalEncoding.
 ghost use mathlib.Core.Path.{_≡_};
-ghost use Rattle.signal.specs.Kind.{widthOf, absent};
+ghost use Rattle.signal.specs.Kind.{widthOf, absent, knownKind};
 
 // A vector of width 0 is an event.
 pub enum SignalEncoding {
@@ -29,5 +29,19 @@ impl SignalEncoding {
             SignalEncoding::Real => false,
             SignalEncoding::Absent => true,
         }
+    }
+}
+
+// The largest width of a vector.
+pub const MAX_WIDTH: u32 = 65536;
+
+// Widths are at most 65,536.
+pub fn known_kind(kind: SignalEncoding) -> bool
+    ensures { λ r. ⌜ r ≡ knownKind kind ⌝ }
+{
+    match kind {
+        SignalEncoding::BitVector(width) => width <= MAX_WIDTH,
+        SignalEncoding::Real => true,
+        SignalEncoding::Absent => true,
     }
 }

@@ -2,49 +2,26 @@
 -- Assumes nothing.
 use Prim.Native.Nat.{ℕ, zero, suc, _+_, _*_, _/_, _%_, _^_, _≤_, _<_}
 use mathlib.Core.Path.{_≡_, refl, sym, ap, ap₂, _∙_}
-use mathlib.Core.Bool.{Bool, true, false, not, _||_}
+use mathlib.Core.Bool.{Bool, false, not, _||_}
 use mathlib.Core.List.{List, [], _∷_, map}
 use native.Mathlib.Omega.{arith}
-use borrow.Author.Tests.{eqb-true, eq-eqb, ne-eqb}
-use lib.Dec.{eqb}
 use lib.ListN.{length, getD, set, drop}
 use lib.Seq.{drop-cons}
-use Rattle.lists.specs.Choice.{pick}
 use Rattle.value.specs.Class.{classNumber, statesOf}
 use Rattle.value.proofs.ClassLaws.{number-states, states-number, number-small}
 use Rattle.value.specs.declared.states.States.{States}
 use Rattle.value.specs.declared.states.States.the-variants.{Two}
 use Rattle.signal.specs.Kind.{knownKind}
-use Rattle.signal.specs.declared.kind.SignalEncoding.the-variants.{BitVector, Real, Absent}
-use Rattle.image.specs.Head.{kindNumber}
+use Rattle.signal.specs.declared.kind.SignalEncoding.the-variants.{Absent}
+use Rattle.image.specs.Head.{kindNumber, kindFrom}
+use Rattle.image.proofs.KindLaws.{kind-number}
 use Rattle.recording.specs.declared.SignalRecord.{SignalRecord}
 use Rattle.recording.specs.Memory.{recordOf}
 use Rattle.recording.specs.Step.{fresh, rewound}
 use Rattle.recording.specs.Refusals.{unknownKind}
-use Rattle.storage.specs.Storage.{kindFrom, recordFrom, numberFrom, recordsOf, Storable}
+use Rattle.storage.specs.Storage.{recordFrom, numberFrom, recordsOf, Storable}
 
 -- ---- one record
-
-pub kind-number : (n : ℕ) → kindNumber (kindFrom n) ≡ n
-kind-number n = by-absent (eqb n 0xffffffff) refl
-  where
-    by-real : (t : Bool) → eqb n 0xfffffffe ≡ t → kindNumber (pick t Real (BitVector n)) ≡ n
-    by-real true e = sym (eqb-true n 0xfffffffe e)
-    by-real false e = refl
-
-    by-absent : (t : Bool) → eqb n 0xffffffff ≡ t → kindNumber (pick t Absent (pick (eqb n 0xfffffffe) Real (BitVector n))) ≡ n
-    by-absent true e = sym (eqb-true n 0xffffffff e)
-    by-absent false e = by-real (eqb n 0xfffffffe) refl
-
--- the kind of a number, a law for each
-pub kind-absent : (n : ℕ) → n ≡ 0xffffffff → Absent ≡ kindFrom n
-kind-absent n e = rw (eq-eqb n 0xffffffff e) refl
-
-pub kind-real : (n : ℕ) → n ≡ 0xfffffffe → Real ≡ kindFrom n
-kind-real n e = rw e refl
-
-pub kind-width : (n : ℕ) → (n ≡ 0xffffffff → ⊥) → (n ≡ 0xfffffffe → ⊥) → BitVector n ≡ kindFrom n
-kind-width n a b = rw (ne-eqb n 0xffffffff a, ne-eqb n 0xfffffffe b) refl
 
 -- the class of a number
 class-number : (n : ℕ) → classNumber (statesOf (n % 3)) ≡ n % 3

@@ -4,18 +4,10 @@
 use Prim.Native.Nat.{ℕ, _+_, _*_, _/_, _%_, _<_}
 use mathlib.Core.Path.{_≡_}
 use mathlib.Core.List.{List, map}
-use lib.Dec.{eqb}
-use Rattle.lists.specs.Choice.{pick}
 use Rattle.value.specs.Class.{classNumber, statesOf}
-use Rattle.signal.specs.declared.kind.SignalEncoding.{SignalEncoding}
-use Rattle.signal.specs.declared.kind.SignalEncoding.the-variants.{BitVector, Real, Absent}
-use Rattle.image.specs.Head.{kindNumber}
+use Rattle.image.specs.Head.{kindNumber, kindFrom}
 use Rattle.recording.specs.declared.SignalRecord.{SignalRecord}
 use Rattle.recording.specs.Memory.{recordOf}
-
--- the kind of a number of 32 bits: FFFFFFFF absent, FFFFFFFE real, else a width
-abbrev pub kindFrom : ℕ → SignalEncoding
-kindFrom n = pick (eqb n 0xffffffff) Absent (pick (eqb n 0xfffffffe) Real (BitVector n))
 
 unfoldable pub recordFrom : ℕ → SignalRecord
 recordFrom n = recordOf (kindFrom (n % 4294967296)) (n / 4294967296 / 3) (statesOf (n / 4294967296 % 3))

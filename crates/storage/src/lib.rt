@@ -1,81 +1,19 @@
 // Signal records stored as numbers of 64 bits, in lent memory.
 //
 // The contracts cite specs/Storage.antt; that every number is a record, and no two the same, is proved in
-// proofs/StorageLaws.antt. An index above 1,431,655,765 has no number; a recording's are below 65,535. What is decided
-// of one record stands in functions by value.
+// proofs/StorageLaws.antt. An index above 1,431,655,765 has no number; a recording's are below 65,535.
+use image::kind::kind_from;
+use image::kind::kind_number;
 use recording::SignalRecord;
-use recording::SignalRef;
+use signal::SignalRef;
 use signal::kind::SignalEncoding;
+use signal::kind::known_kind;
 use value::states::States;
 ghost use mathlib.Core.Path.{_≡_};
 ghost use lib.ListN.{getD, set};
-ghost use Rattle.signal.specs.Kind.{knownKind};
-ghost use Rattle.image.specs.Head.{kindNumber};
 ghost use Rattle.recording.specs.Memory.{recordOf};
-ghost use Rattle.recording.specs.Step as step;
 ghost use Rattle.recording.specs.Refusals.{unknownKind};
-ghost use Rattle.storage.specs.Storage.{kindFrom, recordFrom, numberFrom, recordsOf, Storable};
-
-// Widths are at most 65,536.
-pub fn known_kind(kind: SignalEncoding) -> bool
-    ensures { λ r. ⌜ r ≡ knownKind kind ⌝ }
-{
-    match kind {
-        SignalEncoding::BitVector(width) => width <= 65536,
-        SignalEncoding::Real => true,
-        SignalEncoding::Absent => true,
-    }
-}
-
-// A kind's number: its width, FFFFFFFE for real, FFFFFFFF for absent.
-pub fn kind_number(kind: SignalEncoding) -> u32
-    ensures { λ r. ⌜ r ≡ kindNumber kind ⌝ }
-{
-    match kind {
-        SignalEncoding::BitVector(width) => width,
-        SignalEncoding::Real => 0xfffffffe,
-        SignalEncoding::Absent => 0xffffffff,
-    }
-}
-
-// The kind of a number.
-pub fn kind_from(n: u32) -> SignalEncoding
-    ensures { λ r. ⌜ r ≡ kindFrom n ⌝ }
-{
-    if n == 0xffffffff {
-        return SignalEncoding::Absent;
-    }
-    if n == 0xfffffffe {
-        return SignalEncoding::Real;
-    }
-    SignalEncoding::BitVector(n)
-}
-
-// The record at the start of a recording: index and class are 0.
-pub fn fresh(record: SignalRecord) -> SignalRecord
-    ensures { λ r. ⌜ r ≡ step.fresh «record» ⌝ }
-{
-    let kind = record.kind;
-    let top = States::Two;
-    SignalRecord {
-        kind,
-        index: 0,
-        top,
-    }
-}
-
-// The record after a cut: the index is 0 again, the top class stays.
-pub fn rewound(record: SignalRecord) -> SignalRecord
-    ensures { λ r. ⌜ r ≡ step.rewound «record» ⌝ }
-{
-    let kind = record.kind;
-    let top = record.top;
-    SignalRecord {
-        kind,
-        index: 0,
-        top,
-    }
-}
+ghost use Rattle.storage.specs.Storage.{recordFrom, numberFrom, recordsOf, Storable};
 
 // The record that a number stands for: every number is one.
 pub fn record_from(n: u64) -> SignalRecord

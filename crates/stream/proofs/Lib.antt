@@ -1,7 +1,5 @@
 pub mod StreamTrip
-pub mod KnownLaws
 pub mod LengthLaws
-pub mod SaysLaws
 pub mod ReadLaws
 pub mod WriteLaws
 pub mod Cases

@@ -141,7 +141,9 @@ module _ (s : List ℕ) (at v w : ℕ) (inside : at ≤ length s) where
       let u : List ℕ = unpacked w (v % 4) (take (packedLength w (v % 4)) (drop at s)) in
       let small = class-all-small u in
       let ne : classOfAll u ≡ v % 4 → ⊥ = λ e. omega arith in
-      rw (ne-eqb (classOfAll u) (v % 4) ne) (refused (leb (packedLength w (v % 4)) (length (drop at s))) (topClear w (v % 4) (take (packedLength w (v % 4)) (drop at s))) (allSymbols u) (found (v / 4) (symbols u) (drop (packedLength w (v % 4)) (drop at s))))
+      rw (ne-eqb (classOfAll u) (v % 4) ne)
+      (refused (leb (packedLength w (v % 4)) (length (drop at s))) (topClear w (v % 4) (take (packedLength w (v % 4)) (drop at s))) (allSymbols u)
+      (found (v / 4) (symbols u) (drop (packedLength w (v % 4)) (drop at s))))
     where
       refused : (a b c : Bool) (g : Got Change) → read.Bad ≡ readAs (BitVector w) (length s) (pick (a && (b && (c && false))) g bad)
       refused true true true g = refl

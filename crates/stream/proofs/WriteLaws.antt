@@ -1,7 +1,7 @@
 -- Writing: two runs of bytes one after the other, and how large a change is.
 -- Assumes nothing.
 use Prim.Native.Nat.{ℕ, suc, zero, _+_, _*_, _≤_, _<_, _^_}
-use mathlib.Core.Path.{_≡_, refl, sym, ap, ap₂, _∙_}
+use mathlib.Core.Path.{_≡_, refl, sym, ap}
 use mathlib.Core.List.{List, _++_}
 use native.Mathlib.Omega.{arith}
 use lib.ListN.{length, length-append}
@@ -12,10 +12,6 @@ use Rattle.value.specs.Class.{classNumber, classOfAll}
 use Rattle.value.specs.declared.states.States.{States}
 use Rattle.value.specs.declared.states.States.the-variants.{Two, Four, Nine}
 use Rattle.packed.specs.Packed.{packed, packedLength}
-use Rattle.packed.proofs.PackedLaws.{length-packed}
-use Rattle.packer.specs.Notation.{symbolsFrom, Readable}
-use Rattle.packer.specs.declared.Notation.{Notation}
-use Rattle.packer.proofs.NotationLaws.{length-from}
 use Rattle.signal.specs.Content.{symbols}
 use Rattle.signal.specs.declared.kind.SignalEncoding.the-variants.{BitVector}
 use Rattle.stream.specs.Stream.{changeBytes}
@@ -45,9 +41,3 @@ room-front a b at n h = omega (arith, length-append a b)
 
 pub room-back : (a b old mid : List ℕ) (at p m : ℕ) → at + length (a ++ b) ≤ length old → p ≡ at + length a → mid ≡ sets old at a → m ≡ length b → p + m ≤ length mid
 room-back a b old mid at p m h e f g = omega (arith, length-append a b, length-sets old at a, ap length f)
-
--- the size of a vector's symbols, packed in their class
-pub sized : (n : Notation) (w : ℕ) (b : List ℕ) (x : States) → Readable n w b → classOfAll (symbolsFrom n w b) ≡ classNumber x
-    → packedLength w (classNumber x) ≡ length (packed (classOfAll (symbolsFrom n w b)) (symbolsFrom n w b))
-sized n w b x h e =
-    sym (length-packed (classOfAll (symbolsFrom n w b)) (symbolsFrom n w b) ∙ ap₂ packedLength (length-from n w b h) e)

@@ -1,7 +1,6 @@
-// One change as stream bytes, and back. Document 01, 'Stream of one signal', after wellen's SignalEncoder and load_ functions.
+// One change of a stream: document 01, 'Stream of one signal', after wellen's SignalEncoder and load_ functions.
 //
-// The contracts cite specs/Stream.antt (the bytes) and specs/Answer.antt (what was said, its length, and the answers). That reading accepts exactly what writing makes is proved in
-// proofs/StreamTrip.antt. `read::read_change` has no `requires`; `known::known_change` asks that a change stands there, and answers the same.
-pub mod known;
+// Here stand the definitions, specs/Stream.antt (the bytes), specs/Answer.antt (what was said, its length, and the answers) and specs/Entries.antt, with
+// their laws, and the answer that reading gives. That reading accepts exactly what writing makes is proved in proofs/StreamTrip.antt. The code is in
+// `stream_length`, `stream_write`, `stream_read` and `stream_known`.
 pub mod read;
-pub mod write;

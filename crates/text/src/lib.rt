@@ -2,19 +2,9 @@
 pub mod number;
 
 use libc::STDOUT_FILENO;
-ghost use Prim.Native.Nat.{_≤_, _<_};
+ghost use Prim.Native.Nat.{_<_};
 ghost use mathlib.Core.Path.{_≡_};
 ghost use lib.ListN.{length};
-
-// The lesser of two lengths.
-pub fn least(a: usize, b: usize) -> usize
-    ensures { λ r. ⌜ (r ≤ a) × (r ≤ b) ⌝ }
-{
-    if a < b {
-        return a;
-    }
-    b
-}
 
 pub fn wide(x: u8) -> u64
     ensures { λ r. ⌜ (r ≡ x) × (r < 256) ⌝ }
@@ -73,18 +63,6 @@ pub fn word(line: &[u8], k: usize) -> &[u8] {
         i += 1;
     }
     between(line, at, past(line, at, b' '))
-}
-
-// A word, without the byte that ends it, is this name.
-pub fn spells(word: &[u8], name: &[u8]) -> bool {
-    let mut i = 0;
-    while i < name.len() {
-        if byte_at(word, i) != name[i] {
-            return false;
-        }
-        i += 1;
-    }
-    byte_at(word, i) <= b' '
 }
 
 pub fn print(text: &[u8]) {

@@ -9,7 +9,8 @@ use Rattle.value.specs.declared.states.States.the-variants.{Two, Four, N
 use Rattle.value.specs.declared.states.MaybeStates.the-variants.{Some, None}
 
 -- 0 1 x z h u w l - X Z H U W L, and what is no symbol: b B q / 2 space and the bytes beside capitals
-pub letters : map (λ (b : ℕ). orNumber 255 (symbolOf b)) (48 ∷ 49 ∷ 120 ∷ 122 ∷ 104 ∷ 117 ∷ 119 ∷ 108 ∷ 45 ∷ 88 ∷ 90 ∷ 72 ∷ 85 ∷ 87 ∷ 76 ∷ 98 ∷ 66 ∷ 113 ∷ 47 ∷ 50 ∷ 32 ∷ 13 ∷ 16 ∷ 17 ∷ 77 ∷ 0 ∷ 255 ∷ [])
+pub letters : map (λ (b : ℕ). orNumber 255 (symbolOf b))
+    (48 ∷ 49 ∷ 120 ∷ 122 ∷ 104 ∷ 117 ∷ 119 ∷ 108 ∷ 45 ∷ 88 ∷ 90 ∷ 72 ∷ 85 ∷ 87 ∷ 76 ∷ 98 ∷ 66 ∷ 113 ∷ 47 ∷ 50 ∷ 32 ∷ 13 ∷ 16 ∷ 17 ∷ 77 ∷ 0 ∷ 255 ∷ [])
     ≡ 0 ∷ 1 ∷ 2 ∷ 3 ∷ 4 ∷ 5 ∷ 6 ∷ 7 ∷ 8 ∷ 2 ∷ 3 ∷ 4 ∷ 5 ∷ 6 ∷ 7 ∷ 255 ∷ 255 ∷ 255 ∷ 255 ∷ 255 ∷ 255 ∷ 255 ∷ 255 ∷ 255 ∷ 255 ∷ 255 ∷ 255 ∷ []
 unfolding symbolOf
 letters = refl

@@ -10,28 +10,48 @@ use numbers::little_endian::get_u64;
 use numbers::little_endian::put_u32;
 use numbers::little_endian::put_u64;
 use signal::decode::DecodedChange;
-use signal::decode::decode_raw;
-use signal::decode::decode_vcd;
 use signal::kind::SignalEncoding;
+use signal_decode::decode_raw;
+use signal_decode::decode_vcd;
 use text::before;
 use text::print;
 use text::print_bytes;
+use text::print_number;
 use text::wide;
+
+fn print_count(name: &[u8], n: u64) {
+    print(name);
+    print_number(n);
+}
+
+fn print_line(name: &[u8], n: u64) {
+    print_count(name, n);
+    print(b"\n");
+}
+
+fn print_read(r: Leb128) {
+    match r {
+        Leb128::Value(v, next) => {
+            print_count(b" ", v as u64);
+            print_line(b" ", next as u64)
+        }
+        Leb128::Bad => print(b" bad\n"),
+    }
+}
 
 // The number that stands in bytes, and how many it takes.
 fn read_leb128(s: &[u8]) {
     print(b"read ");
     print_bytes(s);
-    match get_leb128(s, 0) {
-        Leb128::Value(v, next) => {
-            print(b" ");
-            io::print_decimal(STDOUT_FILENO, v as u64);
-            print(b" ");
-            io::print_decimal(STDOUT_FILENO, next as u64);
-            print(b"\n");
-        }
-        Leb128::Bad => print(b" bad\n"),
-    }
+    print_read(get_leb128(s, 0))
+}
+
+fn print_leb128(v: u32, s: &[u8]) {
+    print_count(b"leb128 ", v as u64);
+    print(b" ");
+    print_bytes(s);
+    print(b"\n");
+    read_leb128(s)
 }
 
 // A number's bytes, and the number that they read as.
@@ -41,12 +61,7 @@ fn leb128(v: u32) {
         return print(b"leb128 too long\n");
     }
     let end = put_leb128(&mut buf, 0, v);
-    print(b"leb128 ");
-    io::print_decimal(STDOUT_FILENO, v as u64);
-    print(b" ");
-    print_bytes(before(&buf, end));
-    print(b"\n");
-    read_leb128(before(&buf, end));
+    print_leb128(v, before(&buf, end))
 }
 
 fn leb128_values() {
@@ -70,60 +85,52 @@ fn leb128_refused() {
     read_leb128(b"");
 }
 
+// A number's bytes, and the number that they read as, in so many hexadecimal digits.
+fn print_bits(name: &[u8], bytes: &[u8], n: u64, digits: usize) {
+    print(name);
+    print_bytes(bytes);
+    print(b" ");
+    io::print_hex(STDOUT_FILENO, n, digits);
+    print(b"\n");
+}
+
 fn little_endian_32(v: u32) {
     let mut buf = [0u8; 4];
     put_u32(&mut buf, 0, v);
-    print(b"u32 ");
-    print_bytes(&buf);
-    print(b" ");
-    io::print_hex(STDOUT_FILENO, get_u32(&buf, 0) as u64, 8);
-    print(b"\n");
+    print_bits(b"u32 ", &buf, get_u32(&buf, 0) as u64, 8)
 }
 
 fn little_endian_64(v: u64) {
     let mut buf = [0u8; 8];
     put_u64(&mut buf, 0, v);
-    print(b"u64 ");
-    print_bytes(&buf);
-    print(b" ");
-    io::print_hex(STDOUT_FILENO, get_u64(&buf, 0), 16);
-    print(b"\n");
+    print_bits(b"u64 ", &buf, get_u64(&buf, 0), 16)
 }
 
 // The class that the top class rises to, or the refusal's number.
 fn print_decoded(r: DecodedChange) {
     match r {
-        DecodedChange::Change(_, top) => {
-            print(b" good ");
-            io::print_decimal(STDOUT_FILENO, wide(top.number()));
-            print(b"\n");
-        }
-        DecodedChange::Refused(n) => {
-            print(b" bad ");
-            io::print_decimal(STDOUT_FILENO, n as u64);
-            print(b"\n");
-        }
+        DecodedChange::Change(_, top) => print_line(b"' good ", wide(top.number())),
+        DecodedChange::Refused(n) => print_line(b"' bad ", n as u64),
     }
 }
 
 fn vcd(width: u32, value: &[u8]) {
-    print(b"vcd ");
-    io::print_decimal(STDOUT_FILENO, width as u64);
+    print_count(b"vcd ", width as u64);
     print(b" '");
     print(value);
-    print(b"'");
-    print_decoded(decode_vcd(SignalEncoding::BitVector(width), value));
+    print_decoded(decode_vcd(SignalEncoding::BitVector(width), value))
+}
+
+fn print_raw(width: u32, claim: u32, value: &[u8]) {
+    print_count(b"raw ", width as u64);
+    print_count(b" ", claim as u64);
+    print(b" '");
+    print_bytes(value);
 }
 
 fn raw(width: u32, claim: u32, value: &[u8]) {
-    print(b"raw ");
-    io::print_decimal(STDOUT_FILENO, width as u64);
-    print(b" ");
-    io::print_decimal(STDOUT_FILENO, claim as u64);
-    print(b" '");
-    print_bytes(value);
-    print(b"'");
-    print_decoded(decode_raw(SignalEncoding::BitVector(width), claim, value));
+    print_raw(width, claim, value);
+    print_decoded(decode_raw(SignalEncoding::BitVector(width), claim, value))
 }
 
 fn vcd_values() {

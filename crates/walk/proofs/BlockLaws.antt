@@ -13,7 +13,7 @@ use Rattle.lists.specs.Last.{lastOr}
 use Rattle.numbers.specs.LittleEndian.{le, unle}
 use Rattle.numbers.proofs.LittleEndianLaws.{length-le}
 use Rattle.stream.specs.Entries.{Entry}
-use Rattle.image.specs.Block.{Part, Block, block, les, dataOf, offsetsFrom, blockSize, blockBytes}
+use Rattle.image.specs.Block.{Part, Block, block, les, dataOf, offsetsFrom, timesPlace, blockSize, blockBytes}
 use Rattle.image.specs.Head.{headSize, imageLimit}
 use Rattle.image.specs.Image.{Image, streamedParts, streamed, blocksBytes}
 use Rattle.image.proofs.SizeLaws.{length-les, length-offsets, block-size}
@@ -27,6 +27,10 @@ use Rattle.walk.proofs.StandLaws.{Stands, stands-front, stands-back, Nu
 use Rattle.walk.proofs.HeadLaws.{means, head-at}
 
 -- ---- places
+
+-- the blocks left at one that is there
+pub blocks-left : (x : Image) (number : ℕ) → number < length (x .blocks) → drop number (x .blocks) ≡ blockAt x number ∷ drop (suc number) (x .blocks)
+blocks-left x number h = drop-cons (x .blocks) number (block [] []) h
 
 pub first-place : (x : Image) → blockPlace x 0 ≡ headSize (length (x .kinds))
 unfolding blockPlace blocksBytes
@@ -72,7 +76,7 @@ pub record InBlock (b : List ℕ) (at s : ℕ) (ts : List ℕ) (ps : List (Optio
   pub size : Number b at 4 (blockSize s (length ts) (length (dataOf ps)))
   pub count : Number b (at + 4) 4 (length ts)
   pub offsets : Stands b (at + 12) (les 4 (offsetsFrom 0 ps))
-  pub times : Stands b (at + 12 + 4 * s) (les 8 ts)
+  pub times : Stands b (at + timesPlace s) (les 8 ts)
   pub bytes : Stands b (at + blockSize s (length ts) 0) (dataOf ps)
   pub most : at + blockSize s (length ts) (length (dataOf ps)) ≤ length b
 
@@ -99,13 +103,15 @@ inside b at y h w =
     let e3 : at + 4 + 4 + 4 ≡ at + 12 = omega arith in
     let s3' : Stands b (at + 12) (o ++ r4) = rw e3 at s3 in
     let s4 : Stands b (at + 12 + 4 * s) (les 8 (y .times) ++ d) = stands-back b (at + 12) (4 * s) o r4 lo s3' in
-    let s5 : Stands b (at + 12 + 4 * s + 8 * t) d = stands-back b (at + 12 + 4 * s) (8 * t) (les 8 (y .times)) d lt s4 in
-    let e5 : at + 12 + 4 * s + 8 * t ≡ at + blockSize s t 0 = omega arith in
+    let e4 : at + 12 + 4 * s ≡ at + timesPlace s = omega arith in
+    let s4' : Stands b (at + timesPlace s) (les 8 (y .times) ++ d) = rw e4 at s4 in
+    let s5 : Stands b (at + timesPlace s + 8 * t) d = stands-back b (at + timesPlace s) (8 * t) (les 8 (y .times)) d lt s4' in
+    let e5 : at + timesPlace s + 8 * t ≡ at + blockSize s t 0 = omega arith in
     record {
       size = stands-number b at 4 z (omega arith) (stands-front b at (le 4 z) r1 s0);
       count = stands-number b (at + 4) 4 t (omega arith) (stands-front b (at + 4) (le 4 t) r2 s1);
       offsets = stands-front b (at + 12) o r4 s3';
-      times = stands-front b (at + 12 + 4 * s) (les 8 (y .times)) d s4;
+      times = stands-front b (at + timesPlace s) (les 8 (y .times)) d s4';
       bytes = rw e5 at s5;
       most = most;
     }
@@ -146,18 +152,18 @@ each-below m (x ∷ l) zero h k = h .0
 each-below m (x ∷ l) (suc i) h k = each-below m l i (h .1) (omega arith)
 
 pub time-here : (n at i : ℕ) (b : List ℕ) → Bytes b → Opened b → BlockHere n at b → i < length (blockAt (imageIn b) n .times)
-    → Number b (at + 12 + 4 * length (imageIn b .kinds) + 8 * i) 8 (getD (blockAt (imageIn b) n .times) i 0)
+    → Number b (at + timesPlace (length (imageIn b .kinds)) + 8 * i) 8 (getD (blockAt (imageIn b) n .times) i 0)
 time-here n at i b y o h k =
     let x = imageIn b in
     let ts = blockAt x n .times in
-    let p : ℕ = at + 12 + 4 * length (x .kinds) in
+    let p : ℕ = at + timesPlace (length (x .kinds)) in
     let s = stands-nth 8 ts b p i k (here n at b y o h .times) in
     let e : p + i * 8 ≡ p + 8 * i = omega arith in
     stands-number b (p + 8 * i) 8 (getD ts i 0) (each-below (2 ^ 64) ts i (fits-in n b y o (h .exists) .small) k) (rw e at s)
 
 -- the same time, whichever number the block is known by
 pub time-read : (n m at i s : ℕ) (b : List ℕ) → Bytes b → Opened b → BlockHere n at b → i < length (blockAt (imageIn b) n .times) → BlockHere m at b
-    → s ≡ length (imageIn b .kinds) → Number b (at + 12 + 4 * s + 8 * i) 8 (getD (blockAt (imageIn b) m .times) i 0)
+    → s ≡ length (imageIn b .kinds) → Number b (at + timesPlace s + 8 * i) 8 (getD (blockAt (imageIn b) m .times) i 0)
 time-read n m at i s b y o h k g e =
     let same : length (blockAt (imageIn b) n .times) ≡ length (blockAt (imageIn b) m .times) = sym (here n at b y o h .count .value) ∙ here m at b y o g .count .value in
     rw e (time-here m at i b y o g (omega arith))

@@ -16,10 +16,9 @@ use Rattle.numbers.proofs.LittleEndianLaws.{length-le}
 use Rattle.signal.specs.declared.kind.SignalEncoding.{SignalEncoding}
 use Rattle.signal.specs.declared.kind.SignalEncoding.the-variants.{BitVector, Real, Absent}
 use Rattle.signal.specs.Kind.{knownKind}
-use Rattle.storage.specs.Storage.{kindFrom}
-use Rattle.storage.proofs.StorageLaws.{kind-width}
+use Rattle.image.specs.Head.{kindFrom, kindNumber, headSize, headBytes, imageLimit}
+use Rattle.image.proofs.KindLaws.{kind-width}
 use Rattle.image.specs.Block.{les}
-use Rattle.image.specs.Head.{kindNumber, headSize, headBytes, imageLimit}
 use Rattle.image.specs.Image.{Image, blocksBytes, imageBytes}
 use Rattle.codec.specs.ImageForm.{headOf}
 use Rattle.codec.specs.Parse.{parse}

@@ -1,5 +1,5 @@
 -- The image that accepted bytes are, where its blocks and their parts begin, and what its blocks add to the combined table.
--- Laws: proofs/HeadLaws, proofs/BlockLaws, proofs/PartLaws, proofs/TableLaws; for entry points, proofs/OpenLaws.
+-- Laws: proofs/HeadLaws, proofs/BlockLaws; PartLaws of walk_part, TableLaws of walk_table; for entry points, proofs/OpenLaws.
 -- Assumes nothing.
 use Prim.Native.Nat.{ℕ, suc, _+_, _-_, _≤_, _<_}
 use mathlib.Core.Path.{_≡_}

@@ -1,5 +1,8 @@
 // The blocks of an accepted image, one after the other, and their times. A block is named by the byte at which it begins.
 use crate::head::signal_count;
+use image::layout::BLOCK_TIMES;
+use image::layout::head_size;
+use image::layout::times_place;
 use numbers::little_endian::get_u32;
 use numbers::little_endian::get_u64;
 ghost use mathlib.Core.Path.{_≡_};
@@ -14,7 +17,7 @@ pub fn first_block(image: &[u8]) -> usize
     requires { ⌜ Opened (now image) ⌝ }
     ensures { λ r. ⌜ r ≡ blockPlace (imageIn (now (image .entry))) 0 ⌝ }
 {
-    16 + 4 * (signal_count(image) as usize)
+    head_size(signal_count(image) as usize)
 }
 
 // Where the next block begins; after the last one, where the image ends.
@@ -30,7 +33,7 @@ pub fn times_in(image: &[u8], at: usize) -> u32
     requires { ⌜ Opened (now image) × SomeBlock at (now image) ⌝ }
     ensures { λ r. ⌜ ((n : ℕ) → BlockHere n at (now (image .entry)) → r ≡ length (blockAt (imageIn (now (image .entry))) n .times)) ⌝ }
 {
-    get_u32(image, at + 4)
+    get_u32(image, at + BLOCK_TIMES)
 }
 
 // A block's time number i.
@@ -39,7 +42,7 @@ pub fn time_at(image: &[u8], at: usize, i: u32) -> u64
     ensures { λ r. ⌜ ((n : ℕ) → BlockHere n at (now (image .entry)) → r ≡ getD (blockAt (imageIn (now (image .entry))) n .times) i 0) ⌝ }
 {
     let signals = signal_count(image) as usize;
-    get_u64(image, at + 12 + 4 * signals + 8 * (i as usize))
+    get_u64(image, at + times_place(signals) + 8 * (i as usize))
 }
 
 // A block's last time.

@@ -4,7 +4,7 @@ use libc::STDOUT_FILENO;
 use listing::listing_text;
 ghost use Prim.Native.Nat.{_≤_};
 ghost use lib.ListN.{length};
-ghost use Rattle.listing.specs.Listing.{listingLimit};
+ghost use Rattle.listing_text.specs.Listing.{listingLimit};
 
 fn print_listing(image: &[u8], out: &mut [u8])
     requires { ⌜ listingLimit ≤ length (now out) ⌝ }

@@ -1,16 +1,15 @@
 // Makes the calls of a sheet on standard input, answers each on a line, and then shows the image. With the argument `image` it writes
 // the image's bytes alone.
 //
-// What a line says is read by the crate line; the calls are the crate flat's.
-mod answer;
-mod recorder;
-mod run;
-mod sheet;
+// What a line says is read by the crate line; the calls are made by the crate sheet.
+mod lines;
 
-use answer::print_image;
 use libc::STDIN_FILENO;
 use line::words::spells;
-use sheet::take_lines;
+use lines::take_lines;
+use sheet::answer::print_image;
+use sheet::run::OWN;
+use sheet::run::fresh_run;
 use text::before;
 use text::print;
 
@@ -18,22 +17,34 @@ fn zeros() -> [u8; 1048576] {
     [0u8; 1048576]
 }
 
+// The image's bytes, alone or as digits on a line.
+fn show(image: &[u8], alone: bool) {
+    if alone {
+        return print(image);
+    }
+    print_image(image)
+}
+
 // Makes the calls in memory of its own, and shows the image that they leave.
 fn take_sheet(sheet: &[u8], quiet: bool) {
+    let mut run = fresh_run(65535, 1048576, 1048576);
+    if quiet {
+        run[OWN] = 1;
+    }
     let mut records = [0u64; 256];
     let mut times = [0u64; 65535];
     let mut work = zeros();
     let mut image = zeros();
     let total = take_lines(
+        &mut run,
         sheet,
-        quiet,
         &mut records,
         &mut times,
         &mut work,
         &mut image,
     );
     if 0 < total {
-        print_image(before(&image, total), quiet);
+        show(before(&image, total), quiet);
     }
 }
 

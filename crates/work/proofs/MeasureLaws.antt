@@ -4,19 +4,20 @@
 use Prim.Native.Nat.{ℕ, zero, suc, _+_, _-_, _≤_, _<_}
 use mathlib.Core.Path.{_≡_, refl, sym, ap, _∙_}
 use mathlib.Core.Bool.{Bool, true, false, _||_}
-use mathlib.Core.List.{List, [], _∷_, _++_}
+use mathlib.Core.List.{List, [], _∷_}
 use mathlib.Core.Option.{Option, some, none}
 use native.Mathlib.Decide.{ℕ-discrete}
 use native.Mathlib.Nat.{add-zero, zero-add}
 use native.Mathlib.Omega.{arith}
 use borrow.Author.Tests.{eq-eqb, ne-eqb}
 use lib.Dec.{eqb}
-use lib.ListN.{length, take, drop, length-append, length-drop}
+use lib.ListN.{length, take, drop, length-drop}
 use lib.Seq.{length-take-le}
 use Rattle.lists.specs.Choice.{pick, isSome, orEmpty}
 use Rattle.lists.proofs.ChoiceLaws.{some-there, pick-same}
 use Rattle.numbers.specs.LittleEndian.{unle}
 use Rattle.recording.specs.Work.{Item, item, signalAt, sizeAt, itemsOf, itemsIn, gather}
+use Rattle.recording.proofs.GatherLaws.{length-own, gather-other}
 use Rattle.work.specs.Measure.{partLength, dataLength, measured}
 use Rattle.work.specs.Counting.{total, sum, sign, changed, unmarked, scanned}
 use Rattle.work.specs.declared.Measured.the-variants as measure
@@ -26,14 +27,6 @@ use Rattle.work.proofs.WorkLaws.{Below, withFirst, at-place, turn-whole
 use Rattle.work.proofs.SumLaws.{sum-same, sum-one, sum-add, sum-plus, sum-le, sum-zero, sum-shift}
 
 -- ---- one record more
-
-gather-here : (s : ℕ) (b : List ℕ) (is : List Item) → gather s (item s b ∷ is) ≡ b ++ gather s is
-unfolding gather
-gather-here s b is = rw (eq-eqb s s refl) refl
-
-gather-other : (j s : ℕ) (b : List ℕ) (is : List Item) → (j ≡ s → ⊥) → gather j (item s b ∷ is) ≡ gather j is
-unfolding gather
-gather-other j s b is h = rw (ne-eqb s j (λ e. h (sym e))) refl
 
 gather-empty : (j s : ℕ) (b : List ℕ) (is : List Item) → length b ≡ 0 → gather j (item s b ∷ is) ≡ gather j is
 unfolding gather
@@ -45,7 +38,7 @@ unfolding gather
 gather-past n j [] h l = refl
 gather-past n j (r ∷ rs) h l =
     let q : r .signal < n = h .0 in
-    gather-other j (r .signal) (r .bytes) rs (λ e. absurd (omega arith)) ∙ gather-past n j rs (h .1) l
+    gather-other j r rs (λ e. absurd (omega arith)) ∙ gather-past n j rs (h .1) l
 
 -- ---- the data bytes
 
@@ -54,8 +47,8 @@ unfolding total gather
 total-sum n [] h = sum-zero (λ j. 0) 0 n (λ j l. refl)
 total-sum n (r ∷ rs) h =
     sum-one (λ j. length (gather j (r ∷ rs))) (λ j. length (gather j rs)) (r .signal) (length (r .bytes)) 0 n (omega arith) (omega (arith, h .0))
-    (ap length (gather-here (r .signal) (r .bytes) rs) ∙ length-append (r .bytes) (gather (r .signal) rs))
-    (λ j q. ap length (gather-other j (r .signal) (r .bytes) rs q))
+    (length-own r rs)
+    (λ j q. ap length (gather-other j r rs (λ e. q (sym e))))
     ∙ ap (λ (t : ℕ). length (r .bytes) + t) (total-sum n rs (h .1))
 
 part-sign : (x : ℕ) → partLength x ≡ x + sign x
@@ -135,7 +128,7 @@ unmarked-empty m base s b is h = unmarked-same m base s b is (λ i l. rw (gather
 
 pub unmarked-outside : (m : ℕ → Bool) (base s : ℕ) (b : List ℕ) (is : List Item) → ((i : ℕ) → i < 65536 → base + i ≡ s → ⊥)
     → unmarked m base is ≡ unmarked m base (item s b ∷ is)
-unmarked-outside m base s b is h = unmarked-same m base s b is (λ i l. rw (gather-other (base + i) s b is (h i l)) refl)
+unmarked-outside m base s b is h = unmarked-same m base s b is (λ i l. rw (gather-other (base + i) (item s b) is (λ q. h i l (sym q))) refl)
 
 pub unmarked-marked : (m : ℕ → Bool) (base s : ℕ) (b : List ℕ) (is : List Item) → m (s - base) ≡ true
     → unmarked m base is ≡ unmarked m base (item s b ∷ is)
@@ -146,7 +139,7 @@ unmarked-marked m base s b is h = unmarked-same m base s b is (λ i l. by-place 
         let q : i ≡ s - base = omega arith in
         let t : m i ≡ true = ap m q ∙ h in
         rw t refl
-    by-place i (no e) = rw (gather-other (base + i) s b is e) refl
+    by-place i (no e) = rw (gather-other (base + i) (item s b) is (λ q. e (sym q))) refl
 
 -- the first record of a signal of the window that has bytes
 pub unmarked-first : (m m' : ℕ → Bool) (base s : ℕ) (b : List ℕ) (is : List Item) → base ≤ s → s - base < 65536 → 0 < length b → m (s - base) ≡ false
@@ -164,7 +157,7 @@ unmarked-first m m' base s b is l u p h k =
     one (suc x) q = refl
 
     long : 0 < length (gather s (item s b ∷ is))
-    long = rw (gather-here s b is, length-append) (omega arith)
+    long = rw (length-own (item s b) is) (omega arith)
 
     in-set : m' (s - base) ≡ true
     in-set = rw (k (s - base), eq-eqb (s - base) (s - base) refl) refl
@@ -173,7 +166,7 @@ unmarked-first m m' base s b is l u p h k =
     here = rw (h, in-set, at, one (length (gather s (item s b ∷ is))) long) refl
 
     other : (j : ℕ) → (j ≡ s - base → ⊥) → pick (m j) 0 (sign (length (gather (base + j) (item s b ∷ is)))) ≡ pick (m' j) 0 (sign (length (gather (base + j) is)))
-    other j q = rw (k j, ne-eqb j (s - base) q, gather-other (base + j) s b is (λ e. q (omega arith))) refl
+    other j q = rw (k j, ne-eqb j (s - base) q, gather-other (base + j) (item s b) is (λ e. q (omega arith))) refl
 
 -- ---- the pass over the work
 

@@ -13,6 +13,9 @@ use marks::is_marked;
 use marks::mark;
 use numbers::little_endian::get_u32;
 
+// How many signals one pass over the work marks: a bit of its map for each.
+const WINDOW: u64 = 65536;
+
 // How many data bytes the block of some work has, or that it does not divide into records.
 pub enum Measured {
     Data(u64),
@@ -39,7 +42,7 @@ fn count_record(map: &mut [u8], base: u64, signal: u32, size: usize) -> u64
     if wide < base {
         return 0;
     }
-    if 65536 <= wide - base {
+    if WINDOW <= wide - base {
         return 0;
     }
     let i = (wide - base) as usize;
@@ -95,10 +98,10 @@ fn count_later(work: &[u8], signals: u32) -> u64
     ensures { λ r. ⌜ r ≡ changed 65536 (signals - 65536) (itemsIn signals (now (work .entry))) ⌝ }
 {
     let mut count: u64 = 0;
-    let mut base: u64 = 65536;
+    let mut base = WINDOW;
     while base < signals as u64 {
         count += count_window(work, signals, base);
-        base += 65536;
+        base += WINDOW;
     }
     count
 }

@@ -1,8 +1,8 @@
 -- 4 by the kind, 9 by the width, then by the change that the walk found.
 use mathlib.Core.Path.{subst}
 use native.Mathlib.Omega.{arith}
-use Rattle.entry.specs.declared.kept.KeptChange.{KeptChange}
-use Rattle.entry.specs.Kept.{KeptReads}
+use Rattle.entry_same.specs.declared.kept.KeptChange.{KeptChange}
+use Rattle.entry_same.specs.Kept.{KeptReads}
 use Rattle.cursor.proofs.CursorLaws.{cursor-unknown, cursor-short, cursor-nothing, cursor-found}
 use borrow.Author.Needs.{needs}
 use Rattle.cursor.proofs.cursor_in.Statement.{statement}
@@ -28,7 +28,8 @@ cast-if2 c = search needs
 returns-2 : tie.Need-returns-2
 returns-2 c =
     let a = c .before .before .before .before .before .before .before .args in
-    cursor-short (a .image .now) (a .signal) (a .t) (a .out .now) (c .before .before .before .before .kind-at .result) _ (c .before .before .before .before .kind-at .ensures) (c .before .before .before .is-absent .ensures) _ (c .before .before .if1 .left) (c .before .width .ensures) (c .if2 .taken)
+    cursor-short (a .image .now) (a .signal) (a .t) (a .out .now) (c .before .before .before .before .kind-at .result) _ (c .before .before .before .before .kind-at .ensures)
+    (c .before .before .before .is-absent .ensures) _ (c .before .before .if1 .left) (c .before .width .ensures) (c .if2 .taken)
 
 point-at-requires : tie.Need-point-at-requires
 point-at-requires c κs = search needs
@@ -42,7 +43,8 @@ enum-known-found c = search needs
 value-at-requires : tie.Need-value-at-requires
 value-at-requires c κs =
     let a = c .before .before .before .before .before .before .before .before .before .before .before .before .args in (
-      subst (λ (l : KeptChange). KeptReads (c .before .before .before .before .before .before .before .before .before .kind-at .result) (a .image .now) l) (c .before .before .found .given .1) (c .before .before .before .before .point-at .ensures .0 .1),
+      subst (λ (l : KeptChange). KeptReads (c .before .before .before .before .before .before .before .before .before .kind-at .result) (a .image .now) l)
+          (c .before .before .found .given .1) (c .before .before .before .before .point-at .ensures .0 .1),
       omega (arith, c .before .before .before .before .before .before .width .ensures, c .before .before .before .before .before .if2 .left),
     )
 
@@ -50,8 +52,11 @@ returns-3 : tie.Need-returns-3
 returns-3 c =
     let p = c .before .before .before .before .before .before .before .before .before .before in
     let a = p .args in
-    cursor-nothing (a .image .now) (a .signal) (a .t) (a .out .now) (c .before .before .before .before .before .before .before .kind-at .result) _ (c .before .before .before .before .before .before .before .kind-at .ensures) (c .before .before .before .before .before .before .is-absent .ensures)
-    (λ j. c .before .before .before .before .before .before .before .before .before .shared-slice-known .given j .fits) (p .pre) (c .before .before .point-at .result) _ (c .before .before .before .before .before .if1 .left) (c .before .before .before .before .width .ensures) (c .before .before .before .if2 .left) (c .before .before .point-at .ensures .1) (c .enum-told .given .1)
+    cursor-nothing (a .image .now) (a .signal) (a .t) (a .out .now) (c .before .before .before .before .before .before .before .kind-at .result) _
+    (c .before .before .before .before .before .before .before .kind-at .ensures) (c .before .before .before .before .before .before .is-absent .ensures)
+    (λ j. c .before .before .before .before .before .before .before .before .before .shared-slice-known .given j .fits) (p .pre) (c .before .before .point-at .result) _
+    (c .before .before .before .before .before .if1 .left) (c .before .before .before .before .width .ensures) (c .before .before .before .if2 .left)
+    (c .before .before .point-at .ensures .1) (c .enum-told .given .1)
 
 same-length : tie.Need-same-length
 same-length c = search needs
@@ -60,8 +65,14 @@ returns-4 : tie.Need-returns-4
 returns-4 c =
     let p = c .before .before .before .before .before .before .before .before .before .before .before .before .before .before .before in
     let a = p .args in
-    cursor-found (a .image .now) (a .signal) (a .t) (a .out .now) (c .before .before .before .before .before .before .before .before .before .before .before .before .kind-at .result) _ (c .before .before .before .before .before .before .before .before .before .before .before .before .kind-at .ensures) (c .before .before .before .before .before .before .before .before .before .before .before .is-absent .ensures)
-    (λ j. c .before .before .before .before .before .before .before .before .before .before .before .before .before .before .shared-slice-known .given j .fits) (p .pre) (c .before .before .before .before .before .before .before .point-at .result) _ (c .before .before .before .before .before .before .before .before .before .before .if1 .left) (c .before .before .before .before .before .before .before .before .before .width .ensures) (c .before .before .before .before .before .before .before .before .if2 .left) (c .before .before .before .before .before .before .before .point-at .ensures .1)
+    cursor-found (a .image .now) (a .signal) (a .t) (a .out .now)
+    (c .before .before .before .before .before .before .before .before .before .before .before .before .kind-at .result) _
+    (c .before .before .before .before .before .before .before .before .before .before .before .before .kind-at .ensures)
+    (c .before .before .before .before .before .before .before .before .before .before .before .is-absent .ensures)
+    (λ j. c .before .before .before .before .before .before .before .before .before .before .before .before .before .before .shared-slice-known .given j .fits) (p .pre)
+    (c .before .before .before .before .before .before .before .point-at .result) _ (c .before .before .before .before .before .before .before .before .before .before .if1 .left)
+    (c .before .before .before .before .before .before .before .before .before .width .ensures) (c .before .before .before .before .before .before .before .before .if2 .left)
+    (c .before .before .before .before .before .before .before .point-at .ensures .1)
     _ _ (c .before .before .value-at .result) _ (c .before .before .before .before .before .found .given .1) (c .before .before .value-at .ensures)
 
 pub cursor-in-spec : {M : Type 1} → statement M

@@ -17,23 +17,14 @@ measure-requires c κs = search needs
 enum-known-n : tie.Need-enum-known-n
 enum-known-n c = search needs
 
-cast-fixed : tie.Need-cast-fixed
-cast-fixed c = search needs
+cast-data-start : tie.Need-cast-data-start
+cast-data-start c = search needs
 
-mul-fixed : tie.Need-mul-fixed
-mul-fixed c = search needs
+cast-data-start-2 : tie.Need-cast-data-start-2
+cast-data-start-2 c = search needs
 
-add-fixed : tie.Need-add-fixed
-add-fixed c = search needs
-
-cast-fixed-2 : tie.Need-cast-fixed-2
-cast-fixed-2 c = search needs
-
-mul-fixed-2 : tie.Need-mul-fixed-2
-mul-fixed-2 c = search needs
-
-add-fixed-2 : tie.Need-add-fixed-2
-add-fixed-2 c = search needs
+data-start-requires : tie.Need-data-start-requires
+data-start-requires c κs = search needs
 
 cast-free : tie.Need-cast-free
 cast-free c = search needs
@@ -43,30 +34,31 @@ sub-free c = search needs
 
 returns : tie.Need-returns
 returns c =
-    let p = c .before .before .before .before .before .before .before .before .before .before in
-    let q = c .before .before .before .before .before .before .before .measure .ensures in
-    size-full (p .args .state) (p .args .work .now) (p .args .image) (p .pre .0) _ q (c .before .before .before .before .before .n .given .1) (omega arith)
-
-returns-2 : tie.Need-returns-2
-returns-2 c =
     let p = c .before .before .before .before .before .before .before .before .before .before .before in
     let q = c .before .before .before .before .before .before .before .before .measure .ensures in
     size-full (p .args .state) (p .args .work .now) (p .args .image) (p .pre .0) _ q (c .before .before .before .before .before .before .n .given .1) (omega arith)
 
-add-t13 : tie.Need-add-t13
-add-t13 c = search needs
+returns-2 : tie.Need-returns-2
+returns-2 c =
+    let p = c .before .before .before .before .before .before .before .before .before .before .before .before in
+    let q = c .before .before .before .before .before .before .before .before .before .measure .ensures in
+    size-full (p .args .state) (p .args .work .now) (p .args .image) (p .pre .0) _ q (c .before .before .before .before .before .before .before .n .given .1) (omega arith)
 
-cast-t20 : tie.Need-cast-t20
-cast-t20 c = search needs
+add-t16 : tie.Need-add-t16
+add-t16 c = search needs
+
+cast-t17 : tie.Need-cast-t17
+cast-t17 c = search needs
 
 enum-told : tie.Need-enum-told
 enum-told c = search needs
 
 returns-3 : tie.Need-returns-3
 returns-3 c =
-    let p = c .before .before .before .before .before .before .before .before .before .before .before in
-    let q = c .before .before .before .before .before .before .before .before .measure .ensures in
-    size-fits (p .args .state) (p .args .work .now) (p .args .image) (p .pre .0) _ q (c .before .before .before .before .before .before .n .given .1) (omega arith)
+    let p = c .before .before .before .before .before .before .before .before .before .before .before .before in
+    let q = c .before .before .before .before .before .before .before .before .before .measure .ensures in
+    rw (c .before .before .before .data-start .ensures)
+    (size-fits (p .args .state) (p .args .work .now) (p .args .image) (p .pre .0) _ q (c .before .before .before .before .before .before .before .n .given .1) (omega arith))
 
 returns-4 : tie.Need-returns-4
 returns-4 c =
@@ -80,18 +72,15 @@ cut-size-spec =
     slice-aggregate-measure
     measure-requires
     enum-known-n
-    cast-fixed
-    mul-fixed
-    add-fixed
-    cast-fixed-2
-    mul-fixed-2
-    add-fixed-2
+    cast-data-start
+    cast-data-start-2
+    data-start-requires
     cast-free
     sub-free
     returns
     returns-2
-    add-t13
-    cast-t20
+    add-t16
+    cast-t17
     enum-told
     returns-3
     returns-4)

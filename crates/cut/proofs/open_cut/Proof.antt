@@ -41,7 +41,8 @@ returns c =
     let p = c .before .before .before .before .before .before .before .before .before in
     let a = p .args in
     let s = a .state in
-    tail-done (s .image) (opened (a .size) (s .held) (s .signals) (take (s .held) (a .times .now)) (usedItems s (a .work .now))) (a .image .now) _ (omega (arith, p .pre .room)) (c .before .before .open-block .ensures)
+    tail-done (s .image) (opened (a .size) (s .held) (s .signals) (take (s .held) (a .times .now)) (usedItems s (a .work .now))) (a .image .now) _ (omega (arith, p .pre .room))
+    (c .before .before .open-block .ensures)
 
 pub open-cut-spec : {M : Type 1} → statement M
 open-cut-spec =

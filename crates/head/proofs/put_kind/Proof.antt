@@ -5,11 +5,8 @@ use borrow.Author.Needs.{needs}
 use Rattle.head.proofs.put_kind.Statement.{statement}
 use Rattle.head.proofs.put_kind.Tie as tie
 
-mul-put-u32 : tie.Need-mul-put-u32
-mul-put-u32 c = search needs
-
-add-put-u32 : tie.Need-add-put-u32
-add-put-u32 c = search needs
+kind-place-requires : tie.Need-kind-place-requires
+kind-place-requires c κs = search needs
 
 kind-number-requires : tie.Need-kind-number-requires
 kind-number-requires c κs = search needs
@@ -23,9 +20,9 @@ same-length c = search needs
 returns : tie.Need-returns
 returns c =
     let p = c .before .before in
-    rw (p .put-u32 .ensures .1, p .before .kind-number .ensures) refl
+    rw (p .put-u32 .ensures .1, p .before .kind-number .ensures, p .before .before .kind-place .ensures) refl
 
 pub put-kind-spec : {M : Type 1} → statement M
 put-kind-spec =
     tie.close
-    (tie.spec mul-put-u32 add-put-u32 kind-number-requires put-u32-requires same-length returns)
+    (tie.spec kind-place-requires kind-number-requires put-u32-requires same-length returns)

@@ -11,7 +11,9 @@ use Rattle.join.proofs.join_in.Tie as tie
 
 -- past the tests
 past : (c : tie.Else1) → let a = c .before .before .before .before .before .args in Passes (imageIn (a .first .now)) (imageIn (a .second .now)) (length (a .out .now))
-past c = let a = c .before .before .before .before .before .args in passed (imageIn (a .first .now)) (imageIn (a .second .now)) (a .out .now) (c .before .refusal .result) (c .before .refusal .ensures) (c .if1 .left)
+past c =
+    let a = c .before .before .before .before .before .args in
+    passed (imageIn (a .first .now)) (imageIn (a .second .now)) (a .out .now) (c .before .refusal .result) (c .before .refusal .ensures) (c .if1 .left)
 
 refusal-requires : tie.Need-refusal-requires
 refusal-requires c κs = search needs
@@ -38,7 +40,9 @@ same-length c = search needs
 returns-2 : tie.Need-returns-2
 returns-2 c =
     let a = c .before .before .before .before .before .before .before .before .before .before .args in
-    join-taken (imageIn (a .first .now)) (imageIn (a .second .now)) (a .out .now) (c .before .before .before .before .before .before .refusal .result) (c .before .before .before .before .before .before .refusal .ensures) (c .before .before .before .before .before .if1 .left) _ _ (c .before .before .before .before .total-of .ensures .0) (c .before .before .put-joined .ensures)
+    join-taken (imageIn (a .first .now)) (imageIn (a .second .now)) (a .out .now) (c .before .before .before .before .before .before .refusal .result)
+    (c .before .before .before .before .before .before .refusal .ensures) (c .before .before .before .before .before .if1 .left) _ _
+    (c .before .before .before .before .total-of .ensures .0) (c .before .before .put-joined .ensures)
 
 pub join-in-spec : {M : Type 1} → statement M
 join-in-spec =

@@ -23,13 +23,28 @@ not-time : (c : tie.Else3) → same (word 0 (c .before .before .before .before .
 not-time c = sym (c .before .spells3 .ensures ∙ ap (λ (w : List ℕ). same w (ascii "time")) (c .before .before .before .before .before .before .before .before .before .word .ensures)) ∙ c .if3 .left
 
 not-vcd : (c : tie.Else4) → same (word 0 (c .before .before .before .before .before .before .before .before .before .before .before .before .before .before .args .line .now)) (ascii "vcd") ≡ false
-not-vcd c = sym (c .before .spells4 .ensures ∙ ap (λ (w : List ℕ). same w (ascii "vcd")) (c .before .before .before .before .before .before .before .before .before .before .before .before .word .ensures)) ∙ c .if4 .left
+not-vcd c =
+    sym (c .before .spells4 .ensures
+    ∙ ap (λ (w : List ℕ). same w (ascii "vcd")) (c .before .before .before .before .before .before .before .before .before .before .before .before .word .ensures)) ∙ c .if4 .left
 
-not-raw : (c : tie.Else5) → same (word 0 (c .before .before .before .before .before .before .before .before .before .before .before .before .before .before .before .before .before .args .line .now)) (ascii "raw") ≡ false
-not-raw c = sym (c .before .spells5 .ensures ∙ ap (λ (w : List ℕ). same w (ascii "raw")) (c .before .before .before .before .before .before .before .before .before .before .before .before .before .before .before .word .ensures)) ∙ c .if5 .left
+not-raw : (c : tie.Else5)
+    → same (word 0 (c .before .before .before .before .before .before .before .before .before .before .before .before .before .before .before .before .before .args .line .now))
+    (ascii "raw") ≡ false
+not-raw c =
+    sym (c .before .spells5 .ensures
+    ∙ ap (λ (w : List ℕ). same w (ascii "raw"))
+    (c .before .before .before .before .before .before .before .before .before .before .before .before .before .before .before .word .ensures)) ∙ c .if5 .left
 
-not-real : (c : tie.Else6) → same (word 0 (c .before .before .before .before .before .before .before .before .before .before .before .before .before .before .before .before .before .before .before .before .args .line .now)) (ascii "real") ≡ false
-not-real c = sym (c .before .spells6 .ensures ∙ ap (λ (w : List ℕ). same w (ascii "real")) (c .before .before .before .before .before .before .before .before .before .before .before .before .before .before .before .before .before .before .word .ensures)) ∙ c .if6 .left
+not-real : (c : tie.Else6)
+    → same
+    (word 0
+    (c .before .before .before .before .before .before .before .before .before .before .before .before .before .before .before .before .before .before .before .before .args .line .now))
+    (ascii "real") ≡ false
+not-real c =
+    sym (c .before .spells6 .ensures
+    ∙ ap (λ (w : List ℕ). same w (ascii "real"))
+    (c .before .before .before .before .before .before .before .before .before .before .before .before .before .before .before .before .before .before .word .ensures))
+    ∙ c .if6 .left
 
 word-requires : tie.Need-word-requires
 word-requires c κs = search needs
@@ -59,7 +74,8 @@ read-start-requires c κs = search needs
 
 returns-2 : tie.Need-returns-2
 returns-2 c =
-    let e = sym (c .before .before .spells2 .ensures ∙ ap (λ (w : List ℕ). same w (ascii "start")) (c .before .before .before .before .before .before .before .word .ensures)) ∙ c .before .if2 .taken in
+    let e = sym (c .before .before .spells2 .ensures ∙ ap (λ (w : List ℕ). same w (ascii "start")) (c .before .before .before .before .before .before .before .word .ensures))
+    ∙ c .before .if2 .taken in
     c .read-start .ensures ∙ sym (call-start (c .before .before .before .before .before .before .before .before .before .args .line .now) (not-lend (c .before .before .before .before)) e)
 
 slice-aggregate-spells-3 : tie.Need-slice-aggregate-spells-3
@@ -73,8 +89,11 @@ read-time-requires c κs = search needs
 
 returns-3 : tie.Need-returns-3
 returns-3 c =
-    let e = sym (c .before .before .spells3 .ensures ∙ ap (λ (w : List ℕ). same w (ascii "time")) (c .before .before .before .before .before .before .before .before .before .before .word .ensures)) ∙ c .before .if3 .taken in
-    c .read-time .ensures ∙ sym (call-time (c .before .before .before .before .before .before .before .before .before .before .before .before .args .line .now) (not-lend (c .before .before .before .before .before .before .before)) (not-start (c .before .before .before .before)) e)
+    let e = sym (c .before .before .spells3 .ensures
+    ∙ ap (λ (w : List ℕ). same w (ascii "time")) (c .before .before .before .before .before .before .before .before .before .before .word .ensures)) ∙ c .before .if3 .taken in
+    c .read-time .ensures
+    ∙ sym (call-time (c .before .before .before .before .before .before .before .before .before .before .before .before .args .line .now)
+    (not-lend (c .before .before .before .before .before .before .before)) (not-start (c .before .before .before .before)) e)
 
 slice-aggregate-spells-4 : tie.Need-slice-aggregate-spells-4
 slice-aggregate-spells-4 c = search needs
@@ -87,8 +106,13 @@ read-vcd-requires c κs = search needs
 
 returns-4 : tie.Need-returns-4
 returns-4 c =
-    let e = sym (c .before .before .spells4 .ensures ∙ ap (λ (w : List ℕ). same w (ascii "vcd")) (c .before .before .before .before .before .before .before .before .before .before .before .before .before .word .ensures)) ∙ c .before .if4 .taken in
-    c .read-vcd .ensures ∙ sym (call-vcd (c .before .before .before .before .before .before .before .before .before .before .before .before .before .before .before .args .line .now) (not-lend (c .before .before .before .before .before .before .before .before .before .before)) (not-start (c .before .before .before .before .before .before .before)) (not-time (c .before .before .before .before)) e)
+    let e = sym (c .before .before .spells4 .ensures
+    ∙ ap (λ (w : List ℕ). same w (ascii "vcd")) (c .before .before .before .before .before .before .before .before .before .before .before .before .before .word .ensures))
+    ∙ c .before .if4 .taken in
+    c .read-vcd .ensures
+    ∙ sym (call-vcd (c .before .before .before .before .before .before .before .before .before .before .before .before .before .before .before .args .line .now)
+    (not-lend (c .before .before .before .before .before .before .before .before .before .before)) (not-start (c .before .before .before .before .before .before .before))
+    (not-time (c .before .before .before .before)) e)
 
 slice-aggregate-spells-5 : tie.Need-slice-aggregate-spells-5
 slice-aggregate-spells-5 c = search needs
@@ -101,8 +125,15 @@ read-raw-requires c κs = search needs
 
 returns-5 : tie.Need-returns-5
 returns-5 c =
-    let e = sym (c .before .before .spells5 .ensures ∙ ap (λ (w : List ℕ). same w (ascii "raw")) (c .before .before .before .before .before .before .before .before .before .before .before .before .before .before .before .before .word .ensures)) ∙ c .before .if5 .taken in
-    c .read-raw .ensures ∙ sym (call-raw (c .before .before .before .before .before .before .before .before .before .before .before .before .before .before .before .before .before .before .args .line .now) (not-lend (c .before .before .before .before .before .before .before .before .before .before .before .before .before)) (not-start (c .before .before .before .before .before .before .before .before .before .before)) (not-time (c .before .before .before .before .before .before .before)) (not-vcd (c .before .before .before .before)) e)
+    let e = sym (c .before .before .spells5 .ensures
+    ∙ ap (λ (w : List ℕ). same w (ascii "raw"))
+    (c .before .before .before .before .before .before .before .before .before .before .before .before .before .before .before .before .word .ensures)) ∙ c .before .if5 .taken in
+    c .read-raw .ensures
+    ∙ sym
+    (call-raw (c .before .before .before .before .before .before .before .before .before .before .before .before .before .before .before .before .before .before .args .line .now)
+    (not-lend (c .before .before .before .before .before .before .before .before .before .before .before .before .before))
+    (not-start (c .before .before .before .before .before .before .before .before .before .before)) (not-time (c .before .before .before .before .before .before .before))
+    (not-vcd (c .before .before .before .before)) e)
 
 slice-aggregate-spells-6 : tie.Need-slice-aggregate-spells-6
 slice-aggregate-spells-6 c = search needs
@@ -115,8 +146,18 @@ read-real-requires c κs = search needs
 
 returns-6 : tie.Need-returns-6
 returns-6 c =
-    let e = sym (c .before .before .spells6 .ensures ∙ ap (λ (w : List ℕ). same w (ascii "real")) (c .before .before .before .before .before .before .before .before .before .before .before .before .before .before .before .before .before .before .before .word .ensures)) ∙ c .before .if6 .taken in
-    c .read-real .ensures ∙ sym (call-real (c .before .before .before .before .before .before .before .before .before .before .before .before .before .before .before .before .before .before .before .before .before .args .line .now) (not-lend (c .before .before .before .before .before .before .before .before .before .before .before .before .before .before .before .before)) (not-start (c .before .before .before .before .before .before .before .before .before .before .before .before .before)) (not-time (c .before .before .before .before .before .before .before .before .before .before)) (not-vcd (c .before .before .before .before .before .before .before)) (not-raw (c .before .before .before .before)) e)
+    let e = sym (c .before .before .spells6 .ensures
+    ∙ ap (λ (w : List ℕ). same w (ascii "real"))
+    (c .before .before .before .before .before .before .before .before .before .before .before .before .before .before .before .before .before .before .before .word .ensures))
+    ∙ c .before .if6 .taken in
+    c .read-real .ensures
+    ∙ sym
+    (call-real
+    (c .before .before .before .before .before .before .before .before .before .before .before .before .before .before .before .before .before .before .before .before .before .args .line .now)
+    (not-lend (c .before .before .before .before .before .before .before .before .before .before .before .before .before .before .before .before))
+    (not-start (c .before .before .before .before .before .before .before .before .before .before .before .before .before))
+    (not-time (c .before .before .before .before .before .before .before .before .before .before)) (not-vcd (c .before .before .before .before .before .before .before))
+    (not-raw (c .before .before .before .before)) e)
 
 slice-aggregate-spells-7 : tie.Need-slice-aggregate-spells-7
 slice-aggregate-spells-7 c = search needs
@@ -126,11 +167,33 @@ spells-requires-7 c κs = search needs
 
 returns-7 : tie.Need-returns-7
 unfolding shown
-returns-7 c = rw (call-finish (c .before .before .before .before .before .before .before .before .before .before .before .before .before .before .before .before .before .before .before .before .before .before .before .args .line .now) (not-lend (c .before .before .before .before .before .before .before .before .before .before .before .before .before .before .before .before .before .before)) (not-start (c .before .before .before .before .before .before .before .before .before .before .before .before .before .before .before)) (not-time (c .before .before .before .before .before .before .before .before .before .before .before .before)) (not-vcd (c .before .before .before .before .before .before .before .before .before)) (not-raw (c .before .before .before .before .before .before)) (not-real (c .before .before .before)), sym (c .before .spells7 .ensures) ∙ c .if7 .taken) refl
+returns-7 c =
+    rw (
+      call-finish
+          (c .before .before .before .before .before .before .before .before .before .before .before .before .before .before .before .before .before .before
+          .before .before .before .before .before .args .line .now)
+          (not-lend (c .before .before .before .before .before .before .before .before .before .before .before .before .before .before .before .before .before .before))
+          (not-start (c .before .before .before .before .before .before .before .before .before .before .before .before .before .before .before))
+          (not-time (c .before .before .before .before .before .before .before .before .before .before .before .before))
+          (not-vcd (c .before .before .before .before .before .before .before .before .before)) (not-raw (c .before .before .before .before .before .before))
+          (not-real (c .before .before .before)),
+      sym (c .before .spells7 .ensures) ∙ c .if7 .taken,
+    ) refl
 
 returns-8 : tie.Need-returns-8
 unfolding shown
-returns-8 c = rw (call-finish (c .before .before .before .before .before .before .before .before .before .before .before .before .before .before .before .before .before .before .before .before .before .before .before .args .line .now) (not-lend (c .before .before .before .before .before .before .before .before .before .before .before .before .before .before .before .before .before .before)) (not-start (c .before .before .before .before .before .before .before .before .before .before .before .before .before .before .before)) (not-time (c .before .before .before .before .before .before .before .before .before .before .before .before)) (not-vcd (c .before .before .before .before .before .before .before .before .before)) (not-raw (c .before .before .before .before .before .before)) (not-real (c .before .before .before)), sym (c .before .spells7 .ensures) ∙ c .if7 .left) refl
+returns-8 c =
+    rw (
+      call-finish
+          (c .before .before .before .before .before .before .before .before .before .before .before .before .before .before .before .before .before .before
+          .before .before .before .before .before .args .line .now)
+          (not-lend (c .before .before .before .before .before .before .before .before .before .before .before .before .before .before .before .before .before .before))
+          (not-start (c .before .before .before .before .before .before .before .before .before .before .before .before .before .before .before))
+          (not-time (c .before .before .before .before .before .before .before .before .before .before .before .before))
+          (not-vcd (c .before .before .before .before .before .before .before .before .before)) (not-raw (c .before .before .before .before .before .before))
+          (not-real (c .before .before .before)),
+      sym (c .before .spells7 .ensures) ∙ c .if7 .left,
+    ) refl
 
 pub read-call-spec : {M : Type 1} → statement M
 read-call-spec =

@@ -14,7 +14,8 @@ use Rattle.line.proofs.read_lend.Tie as tie
 times-read : (c : tie.After-known-told) → numberTo 65535 (word 1 (c .before .before .before .before .before .before .args .line .now)) ≡ some (c .before .times .given .0 .0)
 times-read c = number-read _ _ 65535 _ _ (c .before .before .before .decimal .ensures) (c .before .before .before .before .word .ensures) (c .before .times .given .1)
 
-work-read : (c : tie.After-known-told2) → numberTo 1048576 (word 2 (c .before .before .before .before .before .before .before .before .before .before .before .args .line .now)) ≡ some (c .before .work .given .0 .0)
+work-read : (c : tie.After-known-told2)
+    → numberTo 1048576 (word 2 (c .before .before .before .before .before .before .before .before .before .before .before .args .line .now)) ≡ some (c .before .work .given .0 .0)
 work-read c = number-read _ _ 1048576 _ _ (c .before .before .before .decimal2 .ensures) (c .before .before .before .before .word2 .ensures) (c .before .work .given .1)
 
 word-requires : tie.Need-word-requires
@@ -31,7 +32,9 @@ enum-told c = search needs
 
 returns : tie.Need-returns
 unfolding shown lendOf
-returns c = rw (number-read _ _ 65535 _ (word 1 (c .before .before .before .before .before .args .line .now)) (c .before .before .decimal .ensures) (c .before .before .before .word .ensures) (c .enum-told .given .1)) refl
+returns c =
+    rw (number-read _ _ 65535 _ (word 1 (c .before .before .before .before .before .args .line .now)) (c .before .before .decimal .ensures)
+    (c .before .before .before .word .ensures) (c .enum-told .given .1)) refl
 
 word-requires-2 : tie.Need-word-requires-2
 word-requires-2 c κs = search needs
@@ -47,7 +50,12 @@ enum-told-2 c = search needs
 
 returns-2 : tie.Need-returns-2
 unfolding shown lendOf
-returns-2 c = rw (times-read (c .before .before .before .before), number-read _ _ 1048576 _ (word 2 (c .before .before .before .before .before .before .before .before .before .before .args .line .now)) (c .before .before .decimal2 .ensures) (c .before .before .before .word2 .ensures) (c .enum-told2 .given .1)) refl
+returns-2 c =
+    rw (
+      times-read (c .before .before .before .before),
+      number-read _ _ 1048576 _ (word 2 (c .before .before .before .before .before .before .before .before .before .before .args .line .now)) (c .before .before .decimal2 .ensures)
+          (c .before .before .before .word2 .ensures) (c .enum-told2 .given .1),
+    ) refl
 
 after-requires : tie.Need-after-requires
 after-requires c κs = search needs
@@ -63,11 +71,25 @@ enum-told-3 c = search needs
 
 returns-3 : tie.Need-returns-3
 unfolding shown lendOf
-returns-3 c = rw (times-read (c .before .before .before .before .before .before .before .before .before), work-read (c .before .before .before .before), number-read _ _ 1048576 _ (after 3 (c .before .before .before .before .before .before .before .before .before .before .before .before .before .before .before .args .line .now)) (c .before .before .decimal3 .ensures) (c .before .before .before .after .ensures) (c .enum-told3 .given .1)) refl
+returns-3 c =
+    rw (
+      times-read (c .before .before .before .before .before .before .before .before .before),
+      work-read (c .before .before .before .before),
+      number-read _ _ 1048576 _
+          (after 3 (c .before .before .before .before .before .before .before .before .before .before .before .before .before .before .before .args .line .now))
+          (c .before .before .decimal3 .ensures) (c .before .before .before .after .ensures) (c .enum-told3 .given .1),
+    ) refl
 
 returns-4 : tie.Need-returns-4
 unfolding shown lendOf
-returns-4 c = rw (times-read (c .before .before .before .before .before .before .before .before .before .before), work-read (c .before .before .before .before .before), number-read _ _ 1048576 _ (after 3 (c .before .before .before .before .before .before .before .before .before .before .before .before .before .before .before .before .args .line .now)) (c .before .before .before .decimal3 .ensures) (c .before .before .before .before .after .ensures) (c .before .image .given .1)) refl
+returns-4 c =
+    rw (
+      times-read (c .before .before .before .before .before .before .before .before .before .before),
+      work-read (c .before .before .before .before .before),
+      number-read _ _ 1048576 _
+          (after 3 (c .before .before .before .before .before .before .before .before .before .before .before .before .before .before .before .before .args .line .now))
+          (c .before .before .before .decimal3 .ensures) (c .before .before .before .before .after .ensures) (c .before .image .given .1),
+    ) refl
 
 pub read-lend-spec : {M : Type 1} → statement M
 read-lend-spec =

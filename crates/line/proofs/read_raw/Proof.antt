@@ -19,7 +19,8 @@ use Rattle.line.proofs.read_raw.Tie as tie
 signal-read : (c : tie.After-known-told) → number32 (word 1 (c .before .before .before .before .before .before .args .line .now)) ≡ some (c .before .signal .given .0 .0)
 signal-read c = number32-read _ _ _ _ (c .before .before .before .decimal-32 .ensures) (c .before .before .before .before .word .ensures) (c .before .signal .given .1)
 
-claim-read : (c : tie.After-known-told2) → number32 (word 2 (c .before .before .before .before .before .before .before .before .before .before .before .args .line .now)) ≡ some (c .before .claim .given .0 .0)
+claim-read : (c : tie.After-known-told2)
+    → number32 (word 2 (c .before .before .before .before .before .before .before .before .before .before .before .args .line .now)) ≡ some (c .before .claim .given .0 .0)
 claim-read c = number32-read _ _ _ _ (c .before .before .before .decimal-322 .ensures) (c .before .before .before .before .word2 .ensures) (c .before .claim .given .1)
 
 word-requires : tie.Need-word-requires
@@ -36,7 +37,9 @@ enum-told c = search needs
 
 returns : tie.Need-returns
 unfolding shown rawOf
-returns c = rw (number32-read _ _ _ (word 1 (c .before .before .before .before .before .args .line .now)) (c .before .before .decimal-32 .ensures) (c .before .before .before .word .ensures) (c .enum-told .given .1)) refl
+returns c =
+    rw (number32-read _ _ _ (word 1 (c .before .before .before .before .before .args .line .now)) (c .before .before .decimal-32 .ensures)
+    (c .before .before .before .word .ensures) (c .enum-told .given .1)) refl
 
 word-requires-2 : tie.Need-word-requires-2
 word-requires-2 c κs = search needs
@@ -52,7 +55,12 @@ enum-told-2 c = search needs
 
 returns-2 : tie.Need-returns-2
 unfolding shown rawOf
-returns-2 c = rw (signal-read (c .before .before .before .before), number32-read _ _ _ (word 2 (c .before .before .before .before .before .before .before .before .before .before .args .line .now)) (c .before .before .decimal-322 .ensures) (c .before .before .before .word2 .ensures) (c .enum-told2 .given .1)) refl
+returns-2 c =
+    rw (
+      signal-read (c .before .before .before .before),
+      number32-read _ _ _ (word 2 (c .before .before .before .before .before .before .before .before .before .before .args .line .now)) (c .before .before .decimal-322 .ensures)
+          (c .before .before .before .word2 .ensures) (c .enum-told2 .given .1),
+    ) refl
 
 after-requires : tie.Need-after-requires
 after-requires c κs = search needs
@@ -64,13 +72,21 @@ returns-3 : tie.Need-returns-3
 unfolding shown rawOf
 returns-3 c =
     let e = sym (c .before .is-hex .ensures ∙ ap (λ (s : List ℕ). isSome (hexBytes s)) (c .before .before .after .ensures)) ∙ c .if1 .taken in
-    rw (signal-read (c .before .before .before .before .before .before .before .before), claim-read (c .before .before .before), bytes-some (after 3 (c .before .before .before .before .before .before .before .before .before .before .before .before .before .before .args .line .now)) e) refl
+    rw (
+      signal-read (c .before .before .before .before .before .before .before .before),
+      claim-read (c .before .before .before),
+      bytes-some (after 3 (c .before .before .before .before .before .before .before .before .before .before .before .before .before .before .args .line .now)) e,
+    ) refl
 
 returns-4 : tie.Need-returns-4
 unfolding shown rawOf
 returns-4 c =
     let e = sym (c .before .is-hex .ensures ∙ ap (λ (s : List ℕ). isSome (hexBytes s)) (c .before .before .after .ensures)) ∙ c .if1 .left in
-    rw (signal-read (c .before .before .before .before .before .before .before .before), claim-read (c .before .before .before), none-there (hexBytes (after 3 (c .before .before .before .before .before .before .before .before .before .before .before .before .before .before .args .line .now))) e) refl
+    rw (
+      signal-read (c .before .before .before .before .before .before .before .before),
+      claim-read (c .before .before .before),
+      none-there (hexBytes (after 3 (c .before .before .before .before .before .before .before .before .before .before .before .before .before .before .args .line .now))) e,
+    ) refl
 
 pub read-raw-spec : {M : Type 1} → statement M
 read-raw-spec =

@@ -29,7 +29,9 @@ enum-told c = search needs
 
 returns : tie.Need-returns
 unfolding shown realOf
-returns c = rw (number32-read _ _ _ (word 1 (c .before .before .before .before .before .args .line .now)) (c .before .before .decimal-32 .ensures) (c .before .before .before .word .ensures) (c .enum-told .given .1)) refl
+returns c =
+    rw (number32-read _ _ _ (word 1 (c .before .before .before .before .before .args .line .now)) (c .before .before .decimal-32 .ensures)
+    (c .before .before .before .word .ensures) (c .enum-told .given .1)) refl
 
 after-requires : tie.Need-after-requires
 after-requires c κs = search needs

@@ -23,11 +23,15 @@ enum-told c = search needs
 
 returns : tie.Need-returns
 unfolding shown timeOf
-returns c = rw (number-read _ _ 18446744073709551615 _ (after 1 (c .before .before .before .before .before .before .args .line .now)) (c .before .before .before .decimal .ensures) (c .before .before .before .before .after .ensures) (c .before .time .given .1)) refl
+returns c =
+    rw (number-read _ _ 18446744073709551615 _ (after 1 (c .before .before .before .before .before .before .args .line .now)) (c .before .before .before .decimal .ensures)
+    (c .before .before .before .before .after .ensures) (c .before .time .given .1)) refl
 
 returns-2 : tie.Need-returns-2
 unfolding shown timeOf
-returns-2 c = rw (number-read _ _ 18446744073709551615 _ (after 1 (c .before .before .before .before .before .args .line .now)) (c .before .before .decimal .ensures) (c .before .before .before .after .ensures) (c .enum-told .given .1)) refl
+returns-2 c =
+    rw (number-read _ _ 18446744073709551615 _ (after 1 (c .before .before .before .before .before .args .line .now)) (c .before .before .decimal .ensures)
+    (c .before .before .before .after .ensures) (c .enum-told .given .1)) refl
 
 pub read-time-spec : {M : Type 1} → statement M
 read-time-spec =

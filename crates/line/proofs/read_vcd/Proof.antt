@@ -23,11 +23,15 @@ enum-told c = search needs
 
 returns : tie.Need-returns
 unfolding shown vcdOf
-returns c = rw (number32-read _ _ _ (word 1 (c .before .before .before .before .before .before .args .line .now)) (c .before .before .before .decimal-32 .ensures) (c .before .before .before .before .word .ensures) (c .before .signal .given .1)) refl
+returns c =
+    rw (number32-read _ _ _ (word 1 (c .before .before .before .before .before .before .args .line .now)) (c .before .before .before .decimal-32 .ensures)
+    (c .before .before .before .before .word .ensures) (c .before .signal .given .1)) refl
 
 returns-2 : tie.Need-returns-2
 unfolding shown vcdOf
-returns-2 c = rw (number32-read _ _ _ (word 1 (c .before .before .before .before .before .args .line .now)) (c .before .before .decimal-32 .ensures) (c .before .before .before .word .ensures) (c .enum-told .given .1)) refl
+returns-2 c =
+    rw (number32-read _ _ _ (word 1 (c .before .before .before .before .before .args .line .now)) (c .before .before .decimal-32 .ensures)
+    (c .before .before .before .word .ensures) (c .enum-told .given .1)) refl
 
 pub read-vcd-spec : {M : Type 1} → statement M
 read-vcd-spec =

@@ -3,7 +3,7 @@ use mathlib.Core.Path.{sym, _∙_}
 use borrow.Author.Tests.{not-true, not-false}
 use Rattle.walk.proofs.OpenLaws.{parse-closed}
 use Rattle.ascii.proofs.PutLaws.{puts-as, room-as}
-use Rattle.listing.specs.Written.{Taken}
+use Rattle.listing_text.specs.Written.{Taken}
 use Rattle.listing.proofs.ImageLaws.{long-refused, other-refused, listing-opened, listing-room}
 use borrow.Author.Needs.{needs}
 use Rattle.listing.proofs.listing_text.Statement.{statement}
@@ -19,7 +19,9 @@ same-length : tie.Need-same-length
 same-length c = search needs
 
 returns : tie.Need-returns
-returns c = puts-as (sym (long-refused (c .before .before .before .before .before .before .before .before .args .image .now) (c .before .before .before .before .before .if1 .taken))) (c .before .before .put-text .ensures)
+returns c =
+    puts-as (sym (long-refused (c .before .before .before .before .before .before .before .before .args .image .now) (c .before .before .before .before .before .if1 .taken)))
+    (c .before .before .put-text .ensures)
 
 open-requires : tie.Need-open-requires
 open-requires c κs = search needs
@@ -34,16 +36,33 @@ same-length-2 : tie.Need-same-length-2
 same-length-2 c = search needs
 
 returns-2 : tie.Need-returns-2
-returns-2 c = let b = c .before .before .before .before .before .before .before .before .before .before .args .image .now in puts-as (sym (other-refused b (parse-closed b (sym (c .before .before .before .before .before .before .open .ensures) ∙ not-true _ (c .before .before .before .before .before .if2 .taken))))) (c .before .before .put-text2 .ensures)
+returns-2 c =
+    let b = c .before .before .before .before .before .before .before .before .before .before .args .image .now in
+    puts-as (sym (other-refused b
+    (parse-closed b (sym (c .before .before .before .before .before .before .open .ensures) ∙ not-true _ (c .before .before .before .before .before .if2 .taken)))))
+    (c .before .before .put-text2 .ensures)
 
 image-text-requires : tie.Need-image-text-requires
-image-text-requires c κs = let s = c .before .before .before .before .before .before in let o : Taken (c .before .before .before .before .before .before .args .image .now) = (sym (c .before .before .open .ensures) ∙ not-false _ (c .before .if2 .left), c .before .before .before .if1 .left) in (o, room-as (sym (listing-opened (s .args .image .now) o)) (listing-room (s .args .image .now) (s .args .out .now) (λ j. c .before .before .before .before .before .shared-slice-known .given j .fits) (s .pre)))
+image-text-requires c κs =
+    let s = c .before .before .before .before .before .before in
+    let o : Taken (c .before .before .before .before .before .before .args .image .now) =
+    (sym (c .before .before .open .ensures) ∙ not-false _ (c .before .if2 .left), c .before .before .before .if1 .left) in (
+      o,
+      room-as (sym (listing-opened (s .args .image .now) o))
+          (listing-room (s .args .image .now) (s .args .out .now) (λ j. c .before .before .before .before .before .shared-slice-known .given j .fits) (s .pre)),
+    )
 
 same-length-3 : tie.Need-same-length-3
 same-length-3 c = search needs
 
 returns-3 : tie.Need-returns-3
-returns-3 c = let o : Taken (c .before .before .before .before .before .before .before .before .before .args .image .now) = (sym (c .before .before .before .before .before .open .ensures) ∙ not-false _ (c .before .before .before .before .if2 .left), c .before .before .before .before .before .before .if1 .left) in puts-as (listing-opened (c .before .before .before .before .before .before .before .before .before .args .image .now) o) (c .before .before .image-text .ensures)
+returns-3 c =
+    let o : Taken (c .before .before .before .before .before .before .before .before .before .args .image .now) = (
+      sym (c .before .before .before .before .before .open .ensures)
+          ∙ not-false _ (c .before .before .before .before .if2 .left),
+      c .before .before .before .before .before .before .if1 .left,
+    ) in
+    puts-as (listing-opened (c .before .before .before .before .before .before .before .before .before .args .image .now) o) (c .before .before .image-text .ensures)
 
 pub listing-text-spec : {M : Type 1} → statement M
 listing-text-spec =

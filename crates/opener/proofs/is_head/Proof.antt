@@ -27,13 +27,18 @@ numbers-fit-requires : tie.Need-numbers-fit-requires
 numbers-fit-requires c κs = search needs
 
 returns-2 : tie.Need-returns-2
-returns-2 c = head-wrong _ (c .before .before .before .before .before .if1 .left) _ _ _ (c .before .before .before .before .get-u32 .ensures) (c .before .before .before .get-u322 .ensures) (c .before .before .get-u323 .ensures) _ (c .before .numbers-fit .ensures) (not-true _ (c .if2 .taken))
+returns-2 c =
+    head-wrong _ (c .before .before .before .before .before .if1 .left) _ _ _ (c .before .before .before .before .get-u32 .ensures) (c .before .before .before .get-u322 .ensures)
+    (c .before .before .get-u323 .ensures) _ (c .before .numbers-fit .ensures) (not-true _ (c .if2 .taken))
 
 kinds-known-requires : tie.Need-kinds-known-requires
 kinds-known-requires c κs = numbers-say _ _ _ _ (sym (c .before .numbers-fit .ensures) ∙ not-false _ (c .if2 .left)) .head-room
 
 returns-3 : tie.Need-returns-3
-returns-3 c = head-kinds _ (c .before .before .before .before .before .before .if1 .left) _ _ _ (c .before .before .before .before .before .get-u32 .ensures) (c .before .before .before .before .get-u322 .ensures) (c .before .before .before .get-u323 .ensures) _ (c .before .before .numbers-fit .ensures) _ (not-false _ (c .before .if2 .left)) (c .kinds-known .ensures)
+returns-3 c =
+    head-kinds _ (c .before .before .before .before .before .before .if1 .left) _ _ _ (c .before .before .before .before .before .get-u32 .ensures)
+    (c .before .before .before .before .get-u322 .ensures) (c .before .before .before .get-u323 .ensures) _ (c .before .before .numbers-fit .ensures) _
+    (not-false _ (c .before .if2 .left)) (c .kinds-known .ensures)
 
 pub is-head-spec : {M : Type 1} → statement M
 is-head-spec =

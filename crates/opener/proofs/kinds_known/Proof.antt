@@ -2,7 +2,7 @@ use Prim.Native.Nat.{_+_, _-_, _*_, _≤_}
 use mathlib.Core.Path.{_≡_, sym, ap, _∙_}
 use native.Mathlib.Omega.{arith}
 use borrow.Author.Tests.{not-true, not-false}
-use Rattle.storage.specs.Storage.{kindFrom}
+use Rattle.image.specs.Head.{kindFrom}
 use Rattle.opener.specs.Opening.{knownAt}
 use Rattle.opener.proofs.KindLaws.{known-bad, known-more, known-end, known-first}
 use Rattle.opener.proofs.kinds_known.Statement.{statement}
@@ -17,11 +17,8 @@ abbrev μ-loop : tie.MeasureT-loop
 loop-holds : tie.Need-loop-holds Inv-loop μ-loop
 loop-holds c = (omega arith, known-first _ _ _)
 
-mul-get-u32 : tie.Need-mul-get-u32 Inv-loop μ-loop
-mul-get-u32 c = omega arith
-
-add-get-u32 : tie.Need-add-get-u32 Inv-loop μ-loop
-add-get-u32 c = omega arith
+kind-place-requires : tie.Need-kind-place-requires Inv-loop μ-loop
+kind-place-requires c κs = omega arith
 
 get-u32-requires : tie.Need-get-u32-requires Inv-loop μ-loop
 get-u32-requires c κs = omega arith
@@ -33,7 +30,10 @@ known-kind-requires : tie.Need-known-kind-requires Inv-loop μ-loop
 known-kind-requires c κs = tt
 
 returns : tie.Need-returns Inv-loop μ-loop
-returns c = known-bad _ _ _ 16 _ _ (omega arith) (c .before .before .kind-from .ensures ∙ ap kindFrom (c .before .before .before .get-u32 .ensures)) (c .before .known-kind .ensures) (not-true _ (c .if1 .taken)) ∙ c .before .before .before .before .before .loop .inv .1
+returns c =
+    let k = c .before .before .before .before in
+    let kind = c .before .before .kind-from .ensures ∙ ap kindFrom (rw (k .kind-place .ensures) at (c .before .before .before .get-u32 .ensures)) in
+    known-bad _ _ _ 16 _ _ (omega arith) kind (c .before .known-kind .ensures) (not-true _ (c .if1 .taken)) ∙ k .before .before .loop .inv .1
 
 add-i : tie.Need-add-i Inv-loop μ-loop
 add-i c = omega arith
@@ -42,7 +42,10 @@ loop-less : tie.Need-loop-less Inv-loop μ-loop
 loop-less c = omega arith
 
 loop-again : tie.Need-loop-again Inv-loop μ-loop
-loop-again c = (omega arith, sym (known-more _ _ _ 16 _ _ (omega arith) (c .before .before .kind-from .ensures ∙ ap kindFrom (c .before .before .before .get-u32 .ensures)) (c .before .known-kind .ensures) (not-false _ (c .if1 .left))) ∙ c .before .before .before .before .before .loop .inv .1)
+loop-again c =
+    let k = c .before .before .before .before in
+    let kind = c .before .before .kind-from .ensures ∙ ap kindFrom (rw (k .kind-place .ensures) at (c .before .before .before .get-u32 .ensures)) in
+    (omega arith, sym (known-more _ _ _ 16 _ _ (omega arith) kind (c .before .known-kind .ensures) (not-false _ (c .if1 .left))) ∙ k .before .before .loop .inv .1)
 
 returns-2 : tie.Need-returns-2 Inv-loop μ-loop
 returns-2 c = sym (known-end _ _ _ 16 (omega arith)) ∙ c .before .loop .inv .1
@@ -54,8 +57,7 @@ kinds-known-spec =
     Inv-loop
     μ-loop
     loop-holds
-    mul-get-u32
-    add-get-u32
+    kind-place-requires
     get-u32-requires
     kind-from-requires
     known-kind-requires

@@ -25,10 +25,16 @@ get-u32-requires-3 : tie.Need-get-u32-requires-3
 get-u32-requires-3 c κs = let w = head-says _ (sym (c .before .before .before .is-head .ensures) ∙ not-false _ (c .before .before .if1 .left)) in let h = w .0 in omega arith
 
 blocks-fill-requires : tie.Need-blocks-fill-requires
-blocks-fill-requires c κs = let w = head-says _ (sym (c .before .before .before .before .is-head .ensures) ∙ not-false _ (c .before .before .before .if1 .left)) in let p = c .before .before .get-u32 .ensures in let q = c .before .get-u322 .ensures in let r = w .1 .head-room in let s = w .1 .signals-small in let t = w .1 .limit-small in (omega arith, omega arith, omega arith)
+blocks-fill-requires c κs =
+    let w = head-says _ (sym (c .before .before .before .before .is-head .ensures) ∙ not-false _ (c .before .before .before .if1 .left)) in
+    let p = c .before .before .get-u32 .ensures in let q = c .before .get-u322 .ensures in let r = w .1 .head-room in let s = w .1 .signals-small in let t = w .1 .limit-small in
+    (omega arith, omega arith, omega arith)
 
 returns-2 : tie.Need-returns-2
-returns-2 c = open-blocks _ (λ j. c .before .before .before .before .before .before .shared-slice-known .given j .fits) _ (c .before .before .before .before .before .is-head .ensures) _ _ _ _ (not-false _ (c .before .before .before .before .if1 .left)) (c .before .before .before .get-u32 .ensures) (c .before .before .get-u322 .ensures) (c .before .get-u323 .ensures) (c .blocks-fill .ensures)
+returns-2 c =
+    open-blocks _ (λ j. c .before .before .before .before .before .before .shared-slice-known .given j .fits) _
+    (c .before .before .before .before .before .is-head .ensures) _ _ _ _ (not-false _ (c .before .before .before .before .if1 .left))
+    (c .before .before .before .get-u32 .ensures) (c .before .before .get-u322 .ensures) (c .before .get-u323 .ensures) (c .blocks-fill .ensures)
 
 pub open-spec : {M : Type 1} → statement M
 open-spec =

@@ -43,21 +43,21 @@ use denote.Triple.Table.{entered, cited}
 use denote.Triple.Walked.{says, Stays, stay-none, stay-none-slice, gave-slice, walkOf, goes-none, goes-none-slice, goes-gave-slice, Walks, ends-at, walked, walk-meets}
 use denote.Exit.{yes}
 use Rattle.recording.specs.declared.SignalRecord.{SignalRecord}
-use Rattle.recording.specs.declared.SignalRef.{SignalRef}
+use Rattle.signal.specs.declared.SignalRef.{SignalRef}
 use Rattle.recording.specs.declared.Encoder.{Encoder}
 use Rattle.recording.specs.Calls.{replyOf}
 use Rattle.recording.specs.Memory.{memory, after}
 use Rattle.recording.specs.Step.{changeOf}
-use Rattle.plan.specs.declared.Outcome.{Outcome}
+use Rattle.recording.specs.declared.Outcome.{Outcome}
 use Rattle.records.proofs.Rows.{vals, made}
 use Rattle.recording.proofs.SignalRecord as T
 use Rattle.recording.proofs.SignalRecord.Laws as T′
-use Rattle.recording.proofs.SignalRef as S
-use Rattle.recording.proofs.SignalRef.Laws as S′
+use Rattle.signal.proofs.SignalRef as S
+use Rattle.signal.proofs.SignalRef.Laws as S′
 use Rattle.recording.proofs.Encoder as E
 use Rattle.recording.proofs.Encoder.Laws as E′
-use Rattle.plan.proofs.Outcome as O
-use Rattle.plan.proofs.Outcome.Laws as O′
+use Rattle.recording.proofs.Outcome as O
+use Rattle.recording.proofs.Outcome.Laws as O′
 use Rattle.signal.specs.Content.{real}
 use Rattle.owned.specs.declared.Kept.{Kept}
 use Rattle.owned.proofs.Owner.{lends-array, array-back}

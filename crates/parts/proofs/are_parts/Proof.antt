@@ -1,4 +1,4 @@
-use Rattle.storage.specs.Storage.{kindFrom}
+use Rattle.image.specs.Head.{kindFrom}
 use Prim.Native.Nat.{_-_, _≤_}
 use mathlib.Core.Path.{_≡_, refl, ap, _∙_}
 use native.Mathlib.Omega.{arith}
@@ -51,13 +51,27 @@ loop-less : tie.Need-loop-less Inv-loop μ-loop
 loop-less c = omega arith
 
 loop-again : tie.Need-loop-again Inv-loop μ-loop
-loop-again c = let l = c .before .before .before .before .before .before .before .before .loop in let o = c .before .before .before .one-part .ensures in let w = one-lower _ _ _ _ _ _ _ o (c .before .start .given .1) in (omega arith, omega arith, turn-is _ _ _ _ _ _ _ _ _ _ _ _ (omega arith) (omega arith) (l .inv .2) (c .before .before .before .before .before .kind-from .ensures ∙ ap kindFrom (c .before .before .before .before .before .before .get-u32 .ensures)) (c .before .before .before .before .get-u322 .ensures) o ∙ c .before .start .given .1)
+loop-again c =
+    let l = c .before .before .before .before .before .before .before .before .loop in let o = c .before .before .before .one-part .ensures in
+    let w = one-lower _ _ _ _ _ _ _ o (c .before .start .given .1) in (
+      omega arith,
+      omega arith,
+      turn-is _ _ _ _ _ _ _ _ _ _ _ _ (omega arith) (omega arith) (l .inv .2)
+          (c .before .before .before .before .before .kind-from .ensures ∙ ap kindFrom (c .before .before .before .before .before .before .get-u32 .ensures))
+          (c .before .before .before .before .get-u322 .ensures) o ∙ c .before .start .given .1,
+    )
 
 enum-told : tie.Need-enum-told Inv-loop μ-loop
 enum-told c = search needs
 
 returns : tie.Need-returns Inv-loop μ-loop
-returns c = let l = c .before .before .before .before .before .before .before .loop in are-wrong _ _ _ _ _ _ _ (wrong-all _ _ _ _ _ _ _ (l .i - 1) (omega arith) (turn-is _ _ _ _ _ _ _ _ _ _ _ _ (omega arith) (omega arith) (l .inv .2) (c .before .before .before .before .kind-from .ensures ∙ ap kindFrom (c .before .before .before .before .before .get-u32 .ensures)) (c .before .before .before .get-u322 .ensures) (c .before .before .one-part .ensures) ∙ c .enum-told .given .1))
+returns c =
+    let l = c .before .before .before .before .before .before .before .loop in
+    are-wrong _ _ _ _ _ _ _
+    (wrong-all _ _ _ _ _ _ _ (l .i - 1) (omega arith)
+    (turn-is _ _ _ _ _ _ _ _ _ _ _ _ (omega arith) (omega arith) (l .inv .2)
+    (c .before .before .before .before .kind-from .ensures ∙ ap kindFrom (c .before .before .before .before .before .get-u32 .ensures))
+    (c .before .before .before .get-u322 .ensures) (c .before .before .one-part .ensures) ∙ c .enum-told .given .1))
 
 returns-2 : tie.Need-returns-2 Inv-loop μ-loop
 returns-2 c = are-from _ _ _ _ _ _ _ _ _ (omega arith) (c .before .loop .inv .2)

@@ -28,7 +28,9 @@ is-stream-requires : tie.Need-is-stream-requires
 is-stream-requires c κs = search needs
 
 returns-2 : tie.Need-returns-2
-returns-2 c = part-all _ _ _ _ _ _ (length (c .before .before .before .before .before .before .args .s .now) - 1) (c .before .before .before .before .before .before .pre .0) refl (c .before .before .before .top-limit .ensures) (c .before .before .if1 .left) (c .is-stream .ensures) refl
+returns-2 c =
+    part-all _ _ _ _ _ _ (length (c .before .before .before .before .before .before .args .s .now) - 1) (c .before .before .before .before .before .before .pre .0) refl
+    (c .before .before .before .top-limit .ensures) (c .before .before .if1 .left) (c .is-stream .ensures) refl
 
 pub is-part-spec : {M : Type 1} → statement M
 is-part-spec =

@@ -38,10 +38,16 @@ is-part-requires : tie.Need-is-part-requires
 is-part-requires c κs = search needs
 
 returns-3 : tie.Need-returns-3
-returns-3 c = let a = c .before .before .before .before .before .before .before .args in one-part _ _ _ _ _ (a .s .now) (a .base) true (a .base + a .from - (a .base + (a .offset .0 - 1))) (a .base + (a .offset .0 - 1)) refl (c .before .before .before .before .if1 .left) (c .before .before .before .if2 .left) (sym (c .if3 .taken) ∙ c .before .is-part .ensures) (omega arith) refl
+returns-3 c =
+    let a = c .before .before .before .before .before .before .before .args in
+    one-part _ _ _ _ _ (a .s .now) (a .base) true (a .base + a .from - (a .base + (a .offset .0 - 1))) (a .base + (a .offset .0 - 1)) refl
+    (c .before .before .before .before .if1 .left) (c .before .before .before .if2 .left) (sym (c .if3 .taken) ∙ c .before .is-part .ensures) (omega arith) refl
 
 returns-4 : tie.Need-returns-4
-returns-4 c = let a = c .before .before .before .before .before .before .before .args in one-part _ _ _ _ _ (a .s .now) (a .base) false (a .base + a .from - (a .base + (a .offset .0 - 1))) (a .base + (a .offset .0 - 1)) refl (c .before .before .before .before .if1 .left) (c .before .before .before .if2 .left) (sym (c .if3 .left) ∙ c .before .is-part .ensures) (omega arith) refl
+returns-4 c =
+    let a = c .before .before .before .before .before .before .before .args in
+    one-part _ _ _ _ _ (a .s .now) (a .base) false (a .base + a .from - (a .base + (a .offset .0 - 1))) (a .base + (a .offset .0 - 1)) refl
+    (c .before .before .before .before .if1 .left) (c .before .before .before .if2 .left) (sym (c .if3 .left) ∙ c .before .is-part .ensures) (omega arith) refl
 
 pub one-part-spec : {M : Type 1} → statement M
 one-part-spec =

@@ -19,7 +19,11 @@ same-length : tie.Need-same-length
 same-length c = search needs
 
 returns-2 : tie.Need-returns-2
-returns-2 c = let a = c .before .before .before .before .before .before .before .before .args in c .before .before .cursor-in .ensures ∙ sym (cursor-opened (a .image .now) (a .signal .0) (a .time) (a .out .now) (sym (c .before .before .before .before .before .open .ensures) ∙ not-false _ (c .before .before .before .before .if1 .left)))
+returns-2 c =
+    let a = c .before .before .before .before .before .before .before .before .args in
+    c .before .before .cursor-in .ensures
+    ∙ sym (cursor-opened (a .image .now) (a .signal .0) (a .time) (a .out .now)
+    (sym (c .before .before .before .before .before .open .ensures) ∙ not-false _ (c .before .before .before .before .if1 .left)))
 
 pub cursor-spec : {M : Type 1} → statement M
 cursor-spec = tie.close (tie.spec open-requires returns cursor-in-requires same-length returns-2)

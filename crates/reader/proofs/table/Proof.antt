@@ -19,7 +19,10 @@ same-length : tie.Need-same-length
 same-length c = search needs
 
 returns-2 : tie.Need-returns-2
-returns-2 c = let a = c .before .before .before .before .before .before .before .before .args in c .before .before .table-in .ensures ∙ sym (table-opened (a .image .now) (a .out .now) (sym (c .before .before .before .before .before .open .ensures) ∙ not-false _ (c .before .before .before .before .if1 .left)))
+returns-2 c =
+    let a = c .before .before .before .before .before .before .before .before .args in
+    c .before .before .table-in .ensures
+    ∙ sym (table-opened (a .image .now) (a .out .now) (sym (c .before .before .before .before .before .open .ensures) ∙ not-false _ (c .before .before .before .before .if1 .left)))
 
 pub table-spec : {M : Type 1} → statement M
 table-spec = tie.close (tie.spec open-requires returns table-in-requires same-length returns-2)

@@ -38,12 +38,12 @@ use denote.Triple.Table.{entered, cited}
 use denote.Triple.Walked.{says, Stays, stay-none, stay-none-slice, walkOf, goes-none, goes-none-slice, Walks, ends-at, walked, walk-meets}
 use denote.Exit.{yes}
 use Rattle.recording.specs.declared.SignalRecord.{SignalRecord}
-use Rattle.recording.specs.declared.SignalRef.{SignalRef}
+use Rattle.signal.specs.declared.SignalRef.{SignalRef}
 use Rattle.records.proofs.Rows.{blank, vals, mach, scaled, wider, typed, made}
 use Rattle.recording.proofs.SignalRecord as T
 use Rattle.recording.proofs.SignalRecord.Laws as T′
-use Rattle.recording.proofs.SignalRef as S
-use Rattle.recording.proofs.SignalRef.Laws as S′
+use Rattle.signal.proofs.SignalRef as S
+use Rattle.signal.proofs.SignalRef.Laws as S′
 use Rattle.records.proofs.absent_record as none
 use Rattle.records.proofs.absent_record.Symbol as none-def
 use Rattle.records.proofs.absent_record.Symbol.{name as #records·absent-record}

@@ -37,12 +37,12 @@ use denote.Triple.Table.{entered}
 use denote.Triple.Walked.{says, Stays, stay-none, stay-slice, walkOf, goes-none, goes-slice, Walks, ends-at, walked, walk-meets}
 use denote.Exit.{yes}
 use Rattle.recording.specs.declared.SignalRecord.{SignalRecord}
-use Rattle.recording.specs.declared.SignalRef.{SignalRef}
+use Rattle.signal.specs.declared.SignalRef.{SignalRef}
 use Rattle.records.proofs.Rows.{blank, vals, mach, scaled, wider, typed, made, owns-at}
 use Rattle.recording.proofs.SignalRecord as T
 use Rattle.recording.proofs.SignalRecord.Laws as T′
-use Rattle.recording.proofs.SignalRef as S
-use Rattle.recording.proofs.SignalRef.Laws as S′
+use Rattle.signal.proofs.SignalRef as S
+use Rattle.signal.proofs.SignalRef.Laws as S′
 use Rattle.records.proofs.put_record.Key.{name as #records·put-record}
 use Rattle.records.proofs.put_record as put
 use Rattle.records.proofs.put_record.Statement as stated

@@ -4,11 +4,8 @@ use borrow.Author.Needs.{needs}
 use Rattle.refusals.proofs.start_refusal.Statement.{statement}
 use Rattle.refusals.proofs.start_refusal.Tie as tie
 
-mul-if7 : tie.Need-mul-if7
-mul-if7 c = search needs
-
-add-if7 : tie.Need-add-if7
-add-if7 c = search needs
+head-size-requires : tie.Need-head-size-requires
+head-size-requires c κs = search needs
 
 returns : tie.Need-returns
 unfolding startTests
@@ -36,22 +33,21 @@ returns-6 c = search (tests, c .if6 .taken)
 
 returns-7 : tie.Need-returns-7
 unfolding startTests
-returns-7 c = search (tests, c .before .before .if6 .left)
+returns-7 c = search (tests, rw (c .before .before .head-size .ensures) at (c .if7 .taken), c .before .before .before .if6 .left)
 
 returns-8 : tie.Need-returns-8
 unfolding startTests
-returns-8 c = search (tests, c .before .before .before .before .if6 .left)
+returns-8 c = search (tests, rw (c .before .before .before .before .head-size .ensures) at (c .before .before .if7 .left), c .before .before .before .before .before .if6 .left)
 
 returns-9 : tie.Need-returns-9
 unfolding startTests
-returns-9 c = search (tests, c .before .before .before .before .if6 .left)
+returns-9 c = search (tests, rw (c .before .before .before .before .head-size .ensures) at (c .before .before .if7 .left), c .before .before .before .before .before .if6 .left)
 
 pub start-refusal-spec : {M : Type 1} → statement M
 start-refusal-spec =
     tie.close
     (tie.spec
-    mul-if7
-    add-if7
+    head-size-requires
     returns
     returns-2
     returns-3

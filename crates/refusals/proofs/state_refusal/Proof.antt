@@ -37,7 +37,8 @@ returns-6 : tie.Need-returns-6
 returns-6 c =
     let a = c .before .before .before .before .before .before .before .before .before .before .before .args in
     let s = a .state in
-    let past = limits-past s (a .lent .records) (a .lent .times) (a .work) (a .lent .image) (c .before .before .before .before .before .before .before .before .before .before .if1 .left) (omega arith) (omega arith) (omega arith) (omega arith) in
+    let past = limits-past s (a .lent .records) (a .lent .times) (a .work) (a .lent .image)
+    (c .before .before .before .before .before .before .before .before .before .before .if1 .left) (omega arith) (omega arith) (omega arith) (omega arith) in
     c .counts-refusal .ensures ∙ sym past
 
 pub state-refusal-spec : {M : Type 1} → statement M

@@ -10,10 +10,16 @@ listing-text-requires : tie.Need-listing-text-requires
 listing-text-requires c κs = search needs
 
 slice-reshare-prefix-write-all : tie.Need-slice-reshare-prefix-write-all
-slice-reshare-prefix-write-all c = let s = c .before .before .before .before .before .before in let v = c .before .before .listing-text in let h = text-read (s .args .image .now) (s .args .out .now) (v .result) (v .last .1 .0) (λ j. c .before .before .before .before .before .shared-slice-known .given j .fits) (s .pre) (v .ensures) in h .inside
+slice-reshare-prefix-write-all c =
+    let s = c .before .before .before .before .before .before in let v = c .before .before .listing-text in
+    let h = text-read (s .args .image .now) (s .args .out .now) (v .result) (v .last .1 .0) (λ j. c .before .before .before .before .before .shared-slice-known .given j .fits)
+    (s .pre) (v .ensures) in h .inside
 
 slice-aggregate-write-all : tie.Need-slice-aggregate-write-all
-slice-aggregate-write-all c = let s = c .before .before .before .before .before .before .before in let v = c .before .before .before .listing-text in let h = text-read (s .args .image .now) (s .args .out .now) (v .result) (v .last .1 .0) (λ j. c .before .before .before .before .before .before .shared-slice-known .given j .fits) (s .pre) (v .ensures) in h .count ∙ sym (ap length (h .is))
+slice-aggregate-write-all c =
+    let s = c .before .before .before .before .before .before .before in let v = c .before .before .before .listing-text in
+    let h = text-read (s .args .image .now) (s .args .out .now) (v .result) (v .last .1 .0)
+    (λ j. c .before .before .before .before .before .before .shared-slice-known .given j .fits) (s .pre) (v .ensures) in h .count ∙ sym (ap length (h .is))
 
 write-all-requires : tie.Need-write-all-requires
 write-all-requires c κs = search needs

@@ -48,8 +48,11 @@ returns-5 : tie.Need-returns-5
 returns-5 c =
     let s = c .before .before .before .before .before .before .before .before .before .before .before in
     let a = s .args in
-    let m = c .before .before .mark in
-    (m .ensures .0 ∙ s .pre, omega arith, λ stream rest e. unmarked-first (markAt (a .map .now)) (markAt (m .last .0)) (a .base) (a .signal) stream rest (omega arith) (omega arith) (omega arith) (cc) (m .ensures .1))
+    let m = c .before .before .mark in (
+      m .ensures .0 ∙ s .pre,
+      omega arith,
+      λ stream rest e. unmarked-first (markAt (a .map .now)) (markAt (m .last .0)) (a .base) (a .signal) stream rest (omega arith) (omega arith) (omega arith) (cc) (m .ensures .1),
+    )
 
 pub count-record-spec : {M : Type 1} → statement M
 count-record-spec =

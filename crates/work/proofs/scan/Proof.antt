@@ -15,15 +15,24 @@ use Rattle.work.proofs.scan.Statement.{statement}
 use Rattle.work.proofs.scan.Tie as tie
 
 abbrev Inv-loop : tie.InvT-loop
-Inv-loop work signals base map₀ sum₀ count₀ p₀ map sum count p = (k : ℕ) × (p ≤ length work) × (length work - p ≤ k) × (sum ≤ p) × (count ≤ p) × (length map ≡ 8192) × (scanned base (itemsOf (length work) signals work) ≡ onward (markAt map) base sum count (itemsOf k signals (drop p work)))
+Inv-loop work signals base map₀ sum₀ count₀ p₀ map sum count p =
+    (k : ℕ) × (p ≤ length work) × (length work - p ≤ k) × (sum ≤ p) × (count ≤ p) × (length map ≡ 8192) ×
+    (scanned base (itemsOf (length work) signals work) ≡ onward (markAt map) base sum count (itemsOf k signals (drop p work)))
 
 abbrev μ-loop : tie.MeasureT-loop
 μ-loop work signals base map₀ sum₀ count₀ p₀ map sum count p = length work - p
 
 loop-holds : tie.Need-loop-holds Inv-loop μ-loop
 loop-holds c =
-    let a = c .before .args in
-    (length (a .work .now), omega arith, omega arith, omega arith, omega arith, refl, onward-start (markAt (replicate 8192 0)) (a .base) (itemsOf (length (a .work .now)) (a .signals) (a .work .now)) (no-marks 8192))
+    let a = c .before .args in (
+      length (a .work .now),
+      omega arith,
+      omega arith,
+      omega arith,
+      omega arith,
+      refl,
+      onward-start (markAt (replicate 8192 0)) (a .base) (itemsOf (length (a .work .now)) (a .signals) (a .work .now)) (no-marks 8192),
+    )
 
 sub-if1 : tie.Need-sub-if1 Inv-loop μ-loop
 sub-if1 c = omega arith
@@ -91,7 +100,9 @@ loop-again c =
     let l = e .before .before .before .before .before .loop in
     let a = e .before .before .before .before .before .before .before .args in
     let r = c .before .count-record in
-    let t = onward-turn (markAt (l .map)) (markAt (r .last .0)) (l .inv .0) (a .signals) (l .p) (a .base) (l .sum) (l .count) (e .before .before .get-u32 .result) (e .get-u322 .result) (r .result) (a .work .now) (e .before .before .get-u32 .ensures) (e .get-u322 .ensures) (omega arith) (omega arith) (omega arith) (omega arith) (r .ensures .2) in
+    let t = onward-turn (markAt (l .map)) (markAt (r .last .0)) (l .inv .0) (a .signals) (l .p) (a .base) (l .sum) (l .count) (e .before .before .get-u32 .result)
+    (e .get-u322 .result) (r .result) (a .work .now) (e .before .before .get-u32 .ensures) (e .get-u322 .ensures) (omega arith) (omega arith) (omega arith) (omega arith)
+    (r .ensures .2) in
     (l .inv .0 - 1, omega arith, omega arith, omega arith, omega (arith, r .ensures .1), r .ensures .0, l .inv .6 ∙ t)
 
 returns-4 : tie.Need-returns-4 Inv-loop μ-loop

@@ -40,13 +40,21 @@ module _ (t : ℕ) where
   put-decimal-requires c κs = let s = c .before .before .before in (omega arith, room-first _ (room-as (decimal-big (s .args .n) (omega arith) (omega arith)) (s .pre .1)))
 
   put-digit-requires-2 : lts.Need-put-digit-requires-2 (calls t) (asked t) put-decimal.Post
-  put-digit-requires-2 c κs = let s = c .before .before .before .before .before .before .before in (omega arith, room-rest (c .before .before .before .put-decimal .ensures) (room-as (decimal-big (s .args .n) (c .before .before .before .before .before .if1 .left) (omega arith)) (s .pre .1)))
+  put-digit-requires-2 c κs =
+      let s = c .before .before .before .before .before .before .before in (
+        omega arith,
+        room-rest (c .before .before .before .put-decimal .ensures)
+            (room-as (decimal-big (s .args .n) (c .before .before .before .before .before .if1 .left) (omega arith)) (s .pre .1)),
+      )
 
   same-length-2 : lts.Need-same-length-2 (calls t) (asked t) put-decimal.Post
   same-length-2 c = puts-length (c .before .before .put-digit2 .ensures) ∙ puts-length (c .before .before .before .before .before .before .put-decimal .ensures)
 
   returns-2 : lts.Need-returns-2 (calls t) (asked t) put-decimal.Post
-  returns-2 c = puts-as (sym (decimal-big (c .before .before .before .before .before .before .before .before .before .before .args .n) (c .before .before .before .before .before .before .before .before .if1 .left) (omega arith))) (puts-append (c .before .before .before .before .before .before .put-decimal .ensures) (c .before .before .put-digit2 .ensures))
+  returns-2 c =
+      puts-as (sym (decimal-big (c .before .before .before .before .before .before .before .before .before .before .args .n)
+      (c .before .before .before .before .before .before .before .before .if1 .left) (omega arith)))
+      (puts-append (c .before .before .before .before .before .before .put-decimal .ensures) (c .before .before .put-digit2 .ensures))
 
 pub +put-decimal-spec : {M : Type 1} → statement M
 +put-decimal-spec =

@@ -38,13 +38,18 @@ module _ (t : ℕ) where
   put-hex-digits-requires c κs = let s = c .before .before .before in (omega arith, room-first _ (room-as (hex-more (s .args .places) (s .args .n) (omega arith)) (s .pre .1)))
 
   put-digit-requires : lts.Need-put-digit-requires (calls t) (asked t) put-hex-digits.Post
-  put-digit-requires c κs = let s = c .before .before .before .before .before .before .before in (omega arith, room-rest (c .before .before .before .put-hex-digits .ensures) (room-as (hex-more (s .args .places) (s .args .n) (omega arith)) (s .pre .1)))
+  put-digit-requires c κs =
+      let s = c .before .before .before .before .before .before .before in
+      (omega arith, room-rest (c .before .before .before .put-hex-digits .ensures) (room-as (hex-more (s .args .places) (s .args .n) (omega arith)) (s .pre .1)))
 
   same-length : lts.Need-same-length (calls t) (asked t) put-hex-digits.Post
   same-length c = puts-length (c .before .before .put-digit .ensures) ∙ puts-length (c .before .before .before .before .before .before .put-hex-digits .ensures)
 
   returns-2 : lts.Need-returns-2 (calls t) (asked t) put-hex-digits.Post
-  returns-2 c = let s = c .before .before .before .before .before .before .before .before .before .before in puts-as (sym (hex-more (s .args .places) (s .args .n) (omega arith))) (puts-append (c .before .before .before .before .before .before .put-hex-digits .ensures) (c .before .before .put-digit .ensures))
+  returns-2 c =
+      let s = c .before .before .before .before .before .before .before .before .before .before in
+      puts-as (sym (hex-more (s .args .places) (s .args .n) (omega arith)))
+      (puts-append (c .before .before .before .before .before .before .put-hex-digits .ensures) (c .before .before .put-digit .ensures))
 
 pub +put-hex-digits-spec : {M : Type 1} → statement M
 +put-hex-digits-spec =

@@ -23,10 +23,14 @@ shared-slice-read-out : tie.Need-shared-slice-read-out Inv-loop μ-loop
 shared-slice-read-out c = omega arith
 
 slice-write-out : tie.Need-slice-write-out Inv-loop μ-loop
-slice-write-out c = let l = c .before .before .loop in let r = c .before .before .before .pre .inside in omega (arith, l .inv .1 .place, l .inv .1 .size, length-drop (l .i) (c .before .before .before .args .text .now))
+slice-write-out c =
+    let l = c .before .before .loop in let r = c .before .before .before .pre .inside in
+    omega (arith, l .inv .1 .place, l .inv .1 .size, length-drop (l .i) (c .before .before .before .args .text .now))
 
 add-p : tie.Need-add-p Inv-loop μ-loop
-add-p c = let l = c .before .before .loop in let r = c .before .before .before .pre .inside in omega (arith, l .inv .1 .place, l .inv .1 .size, length-drop (l .i) (c .before .before .before .args .text .now))
+add-p c =
+    let l = c .before .before .loop in let r = c .before .before .before .pre .inside in
+    omega (arith, l .inv .1 .place, l .inv .1 .size, length-drop (l .i) (c .before .before .before .args .text .now))
 
 add-i : tie.Need-add-i Inv-loop μ-loop
 add-i c = omega arith

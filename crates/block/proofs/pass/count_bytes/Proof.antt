@@ -15,7 +15,9 @@ use Rattle.block.proofs.pass.count_bytes.Statement.{statement}
 use Rattle.block.proofs.pass.count_bytes.Tie as tie
 
 abbrev Inv-loop : tie.InvT-loop
-Inv-loop tail₀ work signals p₀ tail p = (k : ℕ) × (is : List Item) × (p ≤ length work) × (itemsOf k signals (drop p work) ≡ some is) × (length tail ≡ length tail₀) × Counts is tail × (count is tail ≡ count (itemsIn signals work) tail₀)
+Inv-loop tail₀ work signals p₀ tail p =
+    (k : ℕ) × (is : List Item) × (p ≤ length work) × (itemsOf k signals (drop p work) ≡ some is) × (length tail ≡ length tail₀) × Counts is tail ×
+    (count is tail ≡ count (itemsIn signals work) tail₀)
 
 abbrev μ-loop : tie.MeasureT-loop
 μ-loop tail₀ work signals p₀ tail p = length work - p

@@ -13,7 +13,8 @@ use Rattle.block.proofs.pass.put_times.Statement.{statement}
 use Rattle.block.proofs.pass.put_times.Tie as tie
 
 abbrev Inv-loop : tie.InvT-loop
-Inv-loop tail₀ at times held i₀ p₀ tail i p = (i ≤ held) × (p ≡ at + 8 * i) × (length tail ≡ length tail₀) × (sets tail p (les 8 (take (held - i) (drop i times))) ≡ sets tail₀ at (les 8 (take held times)))
+Inv-loop tail₀ at times held i₀ p₀ tail i p =
+    (i ≤ held) × (p ≡ at + 8 * i) × (length tail ≡ length tail₀) × (sets tail p (les 8 (take (held - i) (drop i times))) ≡ sets tail₀ at (les 8 (take held times)))
 
 abbrev μ-loop : tie.MeasureT-loop
 μ-loop tail₀ at times held i₀ p₀ tail i p = held - i

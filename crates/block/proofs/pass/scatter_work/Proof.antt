@@ -15,7 +15,9 @@ use Rattle.block.proofs.pass.scatter_work.Statement.{statement}
 use Rattle.block.proofs.pass.scatter_work.Tie as tie
 
 abbrev Inv-loop : tie.InvT-loop
-Inv-loop tail₀ d work signals p₀ tail p = (k : ℕ) × (is : List Item) × (p ≤ length work) × (itemsOf k signals (drop p work) ≡ some is) × (length tail ≡ length tail₀) × Scatters d is tail × (scatter d is tail ≡ scatter d (itemsIn signals work) tail₀)
+Inv-loop tail₀ d work signals p₀ tail p =
+    (k : ℕ) × (is : List Item) × (p ≤ length work) × (itemsOf k signals (drop p work) ≡ some is) × (length tail ≡ length tail₀) × Scatters d is tail ×
+    (scatter d is tail ≡ scatter d (itemsIn signals work) tail₀)
 
 abbrev μ-loop : tie.MeasureT-loop
 μ-loop tail₀ d work signals p₀ tail p = length work - p
@@ -82,7 +84,13 @@ add-keep-for : tie.Need-add-keep-for Inv-loop μ-loop
 add-keep-for c = omega (arith, scattered (c .before .before .before .before .before .before .before) .fits, c .before .before .before .before .before .kept-for .ensures)
 
 keep-for-requires : tie.Need-keep-for-requires Inv-loop μ-loop
-keep-for-requires c κs = omega (arith, below (c .before .before .before .before .before .before .before), scattered (c .before .before .before .before .before .before .before) .room, c .before .before .before .copy-bytes .kept .0)
+keep-for-requires c κs =
+    omega (
+      arith,
+      below (c .before .before .before .before .before .before .before),
+      scattered (c .before .before .before .before .before .before .before) .room,
+      c .before .before .before .copy-bytes .kept .0,
+    )
 
 loop-less : tie.Need-loop-less Inv-loop μ-loop
 loop-less c = omega (arith, inside (c .before .before .before .before .before .before .before .before .before .before))

@@ -29,7 +29,8 @@ returns-2 : tie.Need-returns-2
 returns-2 c =
     let p = c .before .before .before .before .before .before in
     let a = p .before .before .before .args in
-    settled-part (a .o) (a .g) _ _ (a .tail .now) _ (p .kept-for .ensures) (c .before .before .before .before .before .if1 .left) (c .before .before .before .before .kept-plus-one .ensures) (c .before .before .keep-for .ensures)
+    settled-part (a .o) (a .g) _ _ (a .tail .now) _ (p .kept-for .ensures) (c .before .before .before .before .before .if1 .left)
+    (c .before .before .before .before .kept-plus-one .ensures) (c .before .before .keep-for .ensures)
 
 pub settle-offset-spec : {M : Type 1} → statement M
 settle-offset-spec =

@@ -32,7 +32,9 @@ returns : tie.Need-returns
 returns c =
     let p = c .before .before .before .before .before .before .before .before .before in
     let a = p .args in
-    wide-shows (a .width) (a .next) (c .before .before .before .before .before .before .bytes-required .result) (a .image .now) (a .out .now) _ (a .states) (c .symbols-entry .result) (p .pre .0) (c .before .before .before .before .before .before .bytes-required .ensures) (c .before .before .before .unpack .ensures) (c .symbols-entry .ensures .0) (c .symbols-entry .ensures .1)
+    wide-shows (a .width) (a .next) (c .before .before .before .before .before .before .bytes-required .result) (a .image .now) (a .out .now) _ (a .states)
+    (c .symbols-entry .result) (p .pre .0) (c .before .before .before .before .before .before .bytes-required .ensures) (c .before .before .before .unpack .ensures)
+    (c .symbols-entry .ensures .0) (c .symbols-entry .ensures .1)
 
 pub wide-entry-spec : {M : Type 1} → statement M
 wide-entry-spec =

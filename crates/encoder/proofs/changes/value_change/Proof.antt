@@ -42,33 +42,34 @@ use denote.Triple.Table.{entered, cited}
 use denote.Triple.Walked.{says, Stays, stay-none, stay-none-slice, gave-slice, walkOf, goes-none, goes-none-slice, goes-gave-slice, Walks, ends-at, walked, walk-meets}
 use denote.Exit.{yes}
 use Rattle.recording.specs.declared.SignalRecord.{SignalRecord}
-use Rattle.recording.specs.declared.SignalRef.{SignalRef}
+use Rattle.signal.specs.declared.SignalRef.{SignalRef}
 use Rattle.recording.specs.declared.Encoder.{Encoder}
 use Rattle.recording.specs.Calls.{replyOf}
 use Rattle.recording.specs.Memory.{memory, after}
 use Rattle.recording.specs.Step.{changeOf}
-use Rattle.refusals.specs.declared.Lengths.{Lengths}
-use Rattle.change.specs.declared.notation.Value.{Value}
-use Rattle.change.specs.declared.Changed.{Changed}
-use Rattle.change.specs.Found.{givenOf as says-in, found, foundOf}
-use Rattle.plan.specs.declared.Outcome.{Outcome}
+use Rattle.recording.specs.declared.Lengths.{Lengths}
+use Rattle.change_notation.specs.declared.Value.{Value}
+use Rattle.admission.specs.declared.changed.Changed.{Changed}
+use Rattle.change.specs.Found.{found, foundOf}
+use Rattle.recording.specs.declared.Outcome.{Outcome}
+use Rattle.change_notation.specs.Notation.{givenOf as says-in}
 use Rattle.records.proofs.Rows.{blank, vals, made}
 use Rattle.records.proofs.Shared.{LentShared, lends-shared, shared-back}
 use Rattle.encoder.proofs.ChangeLaws.{change-made}
 use Rattle.recording.proofs.SignalRecord as T
 use Rattle.recording.proofs.SignalRecord.Laws as T′
-use Rattle.recording.proofs.SignalRef as S
-use Rattle.recording.proofs.SignalRef.Laws as S′
+use Rattle.signal.proofs.SignalRef as S
+use Rattle.signal.proofs.SignalRef.Laws as S′
 use Rattle.recording.proofs.Encoder as E
 use Rattle.recording.proofs.Encoder.Laws as E′
-use Rattle.change.proofs.notation.Value as N
-use Rattle.change.proofs.notation.Value.Laws as N′
-use Rattle.refusals.proofs.Lengths as G
-use Rattle.refusals.proofs.Lengths.Laws as G′
-use Rattle.change.proofs.Changed as Ch
-use Rattle.change.proofs.Changed.Laws as Ch′
-use Rattle.plan.proofs.Outcome as O
-use Rattle.plan.proofs.Outcome.Laws as O′
+use Rattle.recording.proofs.Lengths as G
+use Rattle.recording.proofs.Lengths.Laws as G′
+use Rattle.change_notation.proofs.Value as N
+use Rattle.change_notation.proofs.Value.Laws as N′
+use Rattle.admission.proofs.changed.Changed as Ch
+use Rattle.admission.proofs.changed.Changed.Laws as Ch′
+use Rattle.recording.proofs.Outcome as O
+use Rattle.recording.proofs.Outcome.Laws as O′
 use Rattle.records.proofs.find_record as find
 use Rattle.records.proofs.find_record.Symbol as find-def
 use Rattle.records.proofs.find_record.Symbol.{name as #records·find-record}

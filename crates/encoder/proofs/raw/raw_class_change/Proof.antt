@@ -45,27 +45,27 @@ use denote.Triple.Table.{entered, cited}
 use denote.Triple.Walked.{says, Stays, stay-none, stay-none-slice, gave-slice, walkOf, goes-none, goes-none-slice, goes-gave-slice, Walks, ends-at, walked, walk-meets}
 use denote.Exit.{yes}
 use Rattle.recording.specs.declared.SignalRecord.{SignalRecord}
-use Rattle.recording.specs.declared.SignalRef.{SignalRef}
+use Rattle.signal.specs.declared.SignalRef.{SignalRef}
 use Rattle.recording.specs.declared.Encoder.{Encoder}
 use Rattle.recording.specs.Calls.{replyOf}
 use Rattle.recording.specs.Memory.{memory, after}
 use Rattle.recording.specs.Step.{changeOf}
-use Rattle.change.specs.Found.{givenOf as says-in}
-use Rattle.plan.specs.declared.Outcome.{Outcome}
+use Rattle.recording.specs.declared.Outcome.{Outcome}
+use Rattle.change_notation.specs.Notation.{givenOf as says-in}
 use Rattle.records.proofs.Rows.{blank, vals, made}
 use Rattle.records.proofs.Shared.{LentShared, lends-shared, shared-back}
 use Rattle.recording.proofs.SignalRecord as T
 use Rattle.recording.proofs.SignalRecord.Laws as T′
-use Rattle.recording.proofs.SignalRef as S
-use Rattle.recording.proofs.SignalRef.Laws as S′
+use Rattle.signal.proofs.SignalRef as S
+use Rattle.signal.proofs.SignalRef.Laws as S′
 use Rattle.recording.proofs.Encoder as E
 use Rattle.recording.proofs.Encoder.Laws as E′
-use Rattle.plan.proofs.Outcome as O
-use Rattle.plan.proofs.Outcome.Laws as O′
+use Rattle.recording.proofs.Outcome as O
+use Rattle.recording.proofs.Outcome.Laws as O′
 use Rattle.value.specs.declared.states.States.{States}
 use Rattle.value.specs.Class.{classNumber}
 use Rattle.signal.specs.Kind.{widthOf}
-use Rattle.change.specs.declared.notation.Value.the-variants.{Raw}
+use Rattle.change_notation.specs.declared.Value.the-variants.{Raw}
 use Rattle.encoder.specs.declared.raw.RawValue.{RawValue}
 use Rattle.encoder.proofs.raw.RawValue as R
 use Rattle.encoder.proofs.raw.RawValue.Laws as R′

@@ -44,34 +44,34 @@ use denote.Triple.Table.{entered, cited}
 use denote.Triple.Walked.{says, Stays, stay-none, stay-none-slice, gave-slice, walkOf, goes-none, goes-none-slice, goes-gave-slice, Walks, ends-at, walked, walk-meets}
 use denote.Exit.{yes}
 use Rattle.recording.specs.declared.SignalRecord.{SignalRecord}
-use Rattle.recording.specs.declared.SignalRef.{SignalRef}
+use Rattle.signal.specs.declared.SignalRef.{SignalRef}
 use Rattle.recording.specs.declared.Encoder.{Encoder}
 use Rattle.recording.specs.Calls.{replyOf}
 use Rattle.recording.specs.Memory.{memory, after}
 use Rattle.recording.specs.Step.{changeOf}
-use Rattle.change.specs.declared.notation.Value.{Value}
-use Rattle.change.specs.Found.{givenOf as says-in}
-use Rattle.plan.specs.declared.Outcome.{Outcome}
+use Rattle.recording.specs.declared.Outcome.{Outcome}
+use Rattle.change_notation.specs.declared.Value.{Value}
+use Rattle.change_notation.specs.Notation.{givenOf as says-in}
 use Rattle.recording.proofs.SignalRecord as T
-use Rattle.recording.proofs.SignalRef as S
-use Rattle.recording.proofs.SignalRef.Laws as S′
+use Rattle.signal.proofs.SignalRef as S
+use Rattle.signal.proofs.SignalRef.Laws as S′
 use Rattle.recording.proofs.Encoder as E
 use Rattle.recording.proofs.Encoder.Laws as E′
-use Rattle.change.proofs.notation.Value as N
-use Rattle.change.proofs.notation.Value.Laws as N′
-use Rattle.plan.proofs.Outcome as O
-use Rattle.plan.proofs.Outcome.Laws as O′
+use Rattle.recording.proofs.Outcome as O
+use Rattle.recording.proofs.Outcome.Laws as O′
+use Rattle.change_notation.proofs.Value as N
+use Rattle.change_notation.proofs.Value.Laws as N′
 use Rattle.value.specs.Class.{classNumber}
-use Rattle.change.specs.declared.notation.Value.the-variants.{Raw}
+use Rattle.change_notation.specs.declared.Value.the-variants.{Raw}
 use Rattle.encoder.specs.declared.raw.RawValue.{RawValue}
 use Rattle.encoder.proofs.raw.RawValue as R
 use Rattle.encoder.proofs.raw.RawValue.Laws as R′
 use Rattle.value.proofs.states.States as K
 use Rattle.value.proofs.states.States.Laws as K′
-use Rattle.encoder.proofs.raw.raw_notation as note
-use Rattle.encoder.proofs.raw.raw_notation.Symbol as note-def
-use Rattle.encoder.proofs.raw.raw_notation.Symbol.{name as #encoder·raw·raw-notation}
-use Rattle.encoder.proofs.raw.raw_notation.Met as note-thm
+use Rattle.change_notation.proofs.raw_notation as note
+use Rattle.change_notation.proofs.raw_notation.Symbol as note-def
+use Rattle.change_notation.proofs.raw_notation.Symbol.{name as #change-notation·raw-notation}
+use Rattle.change_notation.proofs.raw_notation.Met as note-thm
 use Rattle.encoder.proofs.changes.value_change as go
 use Rattle.encoder.proofs.changes.value_change.Symbol as go-def
 use Rattle.encoder.proofs.changes.value_change.Symbol.{name as #encoder·changes·value-change}
@@ -166,7 +166,7 @@ module _ {M : Type 1} (𝓤 : URA M) (H : Heap 𝓤) (A : Atoms 𝓤) (W : Given
       move ! (2 ∷ 0 ∷ []) $ fjoin ! $ move ! (1 ∷ 0 ∷ []) $ fjoin ! $ owned ! E.the-row (Is E.the-row) (LL.makes E.the-type E′.the-plain 𝓤 H A) state _ state-is $ fjoin ! $
       frame ! $ owned ! O.the-row (Is O.the-row) (LL.makes O.the-type O′.the-plain 𝓤 H A) h _ is $ done !
 
-  walk : (𝓣 : Tables 𝓤 H) → Triple 𝓤 (𝓣 .C #encoder·raw·raw-notation) (Note 𝓤 H A mem run) → Triple 𝓤 (𝓣 .C #encoder·changes·value-change) (Go 𝓤 H A mem run)
+  walk : (𝓣 : Tables 𝓤 H) → Triple 𝓤 (𝓣 .C #change-notation·raw-notation) (Note 𝓤 H A mem run) → Triple 𝓤 (𝓣 .C #encoder·changes·value-change) (Go 𝓤 H A mem run)
       → ent 𝓤 (onEntry 𝓤 H A main.signature κs (qr, (qt, (qw, (qm, (qd, tt))))) (state, (xr γr ys, (xt γt ts, (xw γw ws, (xm γm ms, (signal, (d, tt))))))) at) (WpFn 𝓤 H (𝓣 .C) (𝓣 .Λ) code.function (LL.val E.the-type E′.the-laws state ∷ vr ∷ vt ∷ vw ∷ vm ∷ LL.val S.the-type S′.the-laws signal ∷ vd ∷ []) Post)
   walk 𝓣 kn kv =
       qed W ((‵ (flft κr qr) ⊛ ‵ (flft κt qt) ⊛ ‵ (flft κw qw) ⊛ ‵ (flft κm qm) ⊛ ‵ (flft κd qd) ⊛ ‵ ftrue) ∷ ‵ (owns (E.the-row ∷ MutSlice (named 0) κr T.the-row ∷ ShrSlice (named 1) κt u64 ∷ MutSlice (named 2) κw u8 ∷ ShrSlice (named 3) κm u8 ∷ S.the-row ∷ B κs ∷ []) (state, (xr γr ys, (xt γt ts, (xw γw ws, (xm γm ms, (signal, (d, tt))))))) at) ∷ []) ∵
@@ -228,7 +228,7 @@ module _ {M : Type 1} (𝓤 : URA M) (H : Heap 𝓤) (A : Atoms 𝓤) (W : Given
       at-vals : (h : Outcome) {u : Val} → Is O.the-row h (u ∷ []) → Is O.the-row h (LL.val O.the-type O′.the-laws h ∷ [])
       at-vals h is = subst (Is O.the-row h) (LL.tells O.the-type O′.the-laws h _ is) is
 
-module _ {M : Type 1} (𝓤 : URA M) (H : Heap 𝓤) (A : Atoms 𝓤) (W : Given 𝓤 H A) (mem : Memory → SProp 𝓤) (run : Routine → Fun 𝓤) (𝓣 : Tables 𝓤 H) (kn : Triple 𝓤 (𝓣 .C #encoder·raw·raw-notation) (Note 𝓤 H A mem run)) (kv : Triple 𝓤 (𝓣 .C #encoder·changes·value-change) (Go 𝓤 H A mem run)) where
+module _ {M : Type 1} (𝓤 : URA M) (H : Heap 𝓤) (A : Atoms 𝓤) (W : Given 𝓤 H A) (mem : Memory → SProp 𝓤) (run : Routine → Fun 𝓤) (𝓣 : Tables 𝓤 H) (kn : Triple 𝓤 (𝓣 .C #change-notation·raw-notation) (Note 𝓤 H A mem run)) (kv : Triple 𝓤 (𝓣 .C #encoder·changes·value-change) (Go 𝓤 H A mem run)) where
   walks : Walks 𝓤 H A main.ended stayed (WpFn 𝓤 H (𝓣 .C) (𝓣 .Λ) code.function) (main.clauses 𝓤 H A mem run)
   walks = walked 𝓤 H A main.ended stayed (main.clauses 𝓤 H A mem run) (WpFn 𝓤 H (𝓣 .C) (𝓣 .Λ) code.function)
       (λ κs. (LL.vals E.the-type E′.the-laws, (slice-vals, (slice-vals, (slice-vals, (slice-vals, (LL.vals S.the-type S′.the-laws, (LL.vals (D κs) (L κs), tt))))))))
@@ -247,5 +247,5 @@ raw-value-change-spec 𝓤 H 𝓜 𝓖 𝓡 =
     entered 𝓤 H (tripleOf 𝓤 H (𝓖 .A) main.signature (main.spec 𝓤 H (𝓖 .A) (𝓜 .mem) (𝓡 .run)))
     (tables 𝓤 H 𝓜 𝓡 code.env .C) (tables 𝓤 H 𝓜 𝓡 code.env .Λ) #encoder·raw·raw-value-change code.function (code.unfolded 𝓤 H 𝓜 𝓡)
     (meets 𝓤 H (𝓖 .A) (givenOf 𝓤 H 𝓜 𝓖) (𝓜 .mem) (𝓡 .run) (tablesOf 𝓤 H 𝓜 (tables 𝓤 H 𝓜 𝓡 code.env))
-    (cited 𝓤 H (Note 𝓤 H (𝓖 .A) (𝓜 .mem) (𝓡 .run)) 𝓜 𝓡 code.env #encoder·raw·raw-notation note-def.routine code.calls-encoder·raw·raw-notation (note-thm.met 𝓤 H 𝓜 𝓖 𝓡))
+    (cited 𝓤 H (Note 𝓤 H (𝓖 .A) (𝓜 .mem) (𝓡 .run)) 𝓜 𝓡 code.env #change-notation·raw-notation note-def.routine code.calls-change-notation·raw-notation (note-thm.met 𝓤 H 𝓜 𝓖 𝓡))
     (cited 𝓤 H (Go 𝓤 H (𝓖 .A) (𝓜 .mem) (𝓡 .run)) 𝓜 𝓡 code.env #encoder·changes·value-change go-def.routine code.calls-encoder·changes·value-change (go-thm.met 𝓤 H 𝓜 𝓖 𝓡)))

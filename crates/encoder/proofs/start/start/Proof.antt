@@ -52,8 +52,8 @@ use Rattle.records.proofs.Again.{LentAgain, lends-again, comes-back}
 use Rattle.recording.proofs.SignalRecord as T
 use Rattle.recording.proofs.Encoder as E
 use Rattle.recording.proofs.Encoder.Laws as E′
-use Rattle.plan.proofs.Outcome as O
-use Rattle.plan.proofs.Outcome.Laws as O′
+use Rattle.recording.proofs.Outcome as O
+use Rattle.recording.proofs.Outcome.Laws as O′
 use Rattle.cut.specs.Turns.{firstBy}
 use Rattle.head.specs.Kinds.{kindsPut, KindsFit}
 use Rattle.plan.specs.declared.Begun.{Begun}

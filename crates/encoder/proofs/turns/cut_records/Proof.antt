@@ -61,10 +61,10 @@ use Rattle.cut.proofs.begin_record as put
 use Rattle.cut.proofs.begin_record.Symbol as put-def
 use Rattle.cut.proofs.begin_record.Symbol.{name as #cut·begin-record}
 use Rattle.cut.proofs.begin_record.Met as put-thm
-use Rattle.storage.proofs.rewound as after-it
-use Rattle.storage.proofs.rewound.Symbol as after-it-def
-use Rattle.storage.proofs.rewound.Symbol.{name as #storage·rewound}
-use Rattle.storage.proofs.rewound.Met as after-it-thm
+use Rattle.recording.proofs.rewound as after-it
+use Rattle.recording.proofs.rewound.Symbol as after-it-def
+use Rattle.recording.proofs.rewound.Symbol.{name as #recording·rewound}
+use Rattle.recording.proofs.rewound.Met as after-it-thm
 use Rattle.encoder.proofs.turns.cut_records.Key.{name as #encoder·turns·cut-records}
 use Rattle.encoder.proofs.turns.cut_records as main
 use Rattle.encoder.proofs.turns.cut_records.Statement as stated
@@ -147,7 +147,7 @@ module _ {M : Type 1} (𝓤 : URA M) (H : Heap 𝓤) (A : Atoms 𝓤) (W : Given
       fjoin ! $ owned ! usize (Is usize) (uint-makes 𝓤 H A W w64) used _ used-is $ fjoin ! $ owned ! usize (Is usize) (uint-makes 𝓤 H A W w64) turns _ turns-is $ fjoin ! $ move ! (1 ∷ 0 ∷ []) $ fjoin ! $
       feqI ! (List Val) (vunit ∷ []) (vunit ∷ []) refl $ move ! (1 ∷ 0 ∷ []) $ done !
 
-  module _ (𝓣 : Tables 𝓤 H) (kp : Triple 𝓤 (𝓣 .C #cut·begin-record) (Put 𝓤 H A mem run)) (kn : Triple 𝓤 (𝓣 .C #storage·rewound) (Next 𝓤 H A mem run)) (l₀ l₁ l₂ l₃ l₄ l₅ l₆ l₇ l₈ l₉ l₁₀ l₁₁ l₁₂ l₁₃ l₁₄ l₁₅ : ℕ) where
+  module _ (𝓣 : Tables 𝓤 H) (kp : Triple 𝓤 (𝓣 .C #cut·begin-record) (Put 𝓤 H A mem run)) (kn : Triple 𝓤 (𝓣 .C #recording·rewound) (Next 𝓤 H A mem run)) (l₀ l₁ l₂ l₃ l₄ l₅ l₆ l₇ l₈ l₉ l₁₀ l₁₁ l₁₂ l₁₃ l₁₄ l₁₅ : ℕ) where
     abbrev En : Env 𝓤 H
     En = (tyUnit, l₀) ∷ (slice, l₁) ∷ (word, l₂) ∷ (word, l₃) ∷ (word, l₄) ∷ (bytes, l₅) ∷ (word, l₆) ∷ (word, l₇) ∷ (T′.mir, l₈) ∷ (tyBool, l₉) ∷ (word, l₁₀) ∷ (tyPtr, l₁₁) ∷ (T′.mir, l₁₂) ∷ (ref, l₁₃) ∷ (lent, l₁₄) ∷ (tyPtr, l₁₅) ∷ []
 
@@ -268,7 +268,7 @@ module _ {M : Type 1} (𝓤 : URA M) (H : Heap 𝓤) (A : Atoms 𝓤) (W : Given
         at-vals : {u : Val} → Is T.the-row (rewound r) (u ∷ []) → Is T.the-row (rewound r) (vals (rewound r))
         at-vals is = subst (Is T.the-row (rewound r)) (LL.tells T.the-type T′.the-laws (rewound r) _ is) is
 
-  walk : (𝓣 : Tables 𝓤 H) → Triple 𝓤 (𝓣 .C #cut·begin-record) (Put 𝓤 H A mem run) → Triple 𝓤 (𝓣 .C #storage·rewound) (Next 𝓤 H A mem run)
+  walk : (𝓣 : Tables 𝓤 H) → Triple 𝓤 (𝓣 .C #cut·begin-record) (Put 𝓤 H A mem run) → Triple 𝓤 (𝓣 .C #recording·rewound) (Next 𝓤 H A mem run)
       → ent 𝓤 (onEntry 𝓤 H A main.signature (κr, (κm, tt)) (qr, (qm, tt)) (xr γr ys, (turns, (used, (start, (xm γm ms, tt))))) at) (WpFn 𝓤 H (𝓣 .C) (𝓣 .Λ) code.function (vr ∷ vint w64 turns ∷ vint w64 used ∷ vint w64 start ∷ vm ∷ []) Post)
   walk 𝓣 kp kn =
       qed W ((‵ (flft κr qr) ⊛ ‵ (flft κm qm) ⊛ ‵ ftrue) ∷ ‵ (owns (MutSlice (named 0) κr T.the-row ∷ usize ∷ usize ∷ usize ∷ MutSlice (named 1) κm u8 ∷ []) (xr γr ys, (turns, (used, (start, (xm γm ms, tt))))) at) ∷ []) ∵
@@ -285,7 +285,7 @@ module _ {M : Type 1} (𝓤 : URA M) (H : Heap 𝓤) (A : Atoms 𝓤) (W : Given
       keep ! (5 ∷ 6 ∷ 7 ∷ 8 ∷ 9 ∷ 10 ∷ 11 ∷ 12 ∷ 13 ∷ 14 ∷ 15 ∷ 16 ∷ 17 ∷ 18 ∷ 19 ∷ 20 ∷ 21 ∷ 22 ∷ 23 ∷ 24 ∷ 25 ∷ 26 ∷ 27 ∷ 28 ∷ 29 ∷ 30 ∷ 31 ∷ 32 ∷ 33 ∷ 34 ∷ 35 ∷ 36 ∷ 1 ∷ 2 ∷ 3 ∷ 4 ∷ 0 ∷ 37 ∷ []) $
       first ! $ blocks ! $ loops ! 𝓣 (Nearer turns) (Nearer-wf turns) (At 𝓣 kp kn l₀ l₁ l₂ l₃ l₄ l₅ l₆ l₇ l₈ l₉ l₁₀ l₁₁ l₁₂ l₁₃ l₁₄ l₁₅) (turns-on 𝓣 kp kn l₀ l₁ l₂ l₃ l₄ l₅ l₆ l₇ l₈ l₉ l₁₀ l₁₁ l₁₂ l₁₃ l₁₄ l₁₅) (0, zero-le)))))))))))))))))
 
-module _ {M : Type 1} (𝓤 : URA M) (H : Heap 𝓤) (A : Atoms 𝓤) (W : Given 𝓤 H A) (mem : Memory → SProp 𝓤) (run : Routine → Fun 𝓤) (𝓣 : Tables 𝓤 H) (kp : Triple 𝓤 (𝓣 .C #cut·begin-record) (Put 𝓤 H A mem run)) (kn : Triple 𝓤 (𝓣 .C #storage·rewound) (Next 𝓤 H A mem run)) where
+module _ {M : Type 1} (𝓤 : URA M) (H : Heap 𝓤) (A : Atoms 𝓤) (W : Given 𝓤 H A) (mem : Memory → SProp 𝓤) (run : Routine → Fun 𝓤) (𝓣 : Tables 𝓤 H) (kp : Triple 𝓤 (𝓣 .C #cut·begin-record) (Put 𝓤 H A mem run)) (kn : Triple 𝓤 (𝓣 .C #recording·rewound) (Next 𝓤 H A mem run)) where
   walks : Walks 𝓤 H A main.ended stayed (WpFn 𝓤 H (𝓣 .C) (𝓣 .Λ) code.function) (main.clauses 𝓤 H A mem run)
   walks = walked 𝓤 H A main.ended stayed (main.clauses 𝓤 H A mem run) (WpFn 𝓤 H (𝓣 .C) (𝓣 .Λ) code.function)
       (λ κs. (slice-vals, (uint-vals w64, (uint-vals w64, (uint-vals w64, (slice-vals, tt))))))
@@ -305,4 +305,4 @@ cut-records-spec 𝓤 H 𝓜 𝓖 𝓡 =
     (tables 𝓤 H 𝓜 𝓡 code.env .C) (tables 𝓤 H 𝓜 𝓡 code.env .Λ) #encoder·turns·cut-records code.function (code.unfolded 𝓤 H 𝓜 𝓡)
     (meets 𝓤 H (𝓖 .A) (givenOf 𝓤 H 𝓜 𝓖) (𝓜 .mem) (𝓡 .run) (tablesOf 𝓤 H 𝓜 (tables 𝓤 H 𝓜 𝓡 code.env))
     (cited 𝓤 H (Put 𝓤 H (𝓖 .A) (𝓜 .mem) (𝓡 .run)) 𝓜 𝓡 code.env #cut·begin-record put-def.routine code.calls-cut·begin-record (put-thm.met 𝓤 H 𝓜 𝓖 𝓡))
-    (cited 𝓤 H (Next 𝓤 H (𝓖 .A) (𝓜 .mem) (𝓡 .run)) 𝓜 𝓡 code.env #storage·rewound after-it-def.routine code.calls-storage·rewound (after-it-thm.met 𝓤 H 𝓜 𝓖 𝓡)))
+    (cited 𝓤 H (Next 𝓤 H (𝓖 .A) (𝓜 .mem) (𝓡 .run)) 𝓜 𝓡 code.env #recording·rewound after-it-def.routine code.calls-recording·rewound (after-it-thm.met 𝓤 H 𝓜 𝓖 𝓡)))

@@ -62,10 +62,10 @@ use Rattle.head.proofs.put_kind as put
 use Rattle.head.proofs.put_kind.Symbol as put-def
 use Rattle.head.proofs.put_kind.Symbol.{name as #head·put-kind}
 use Rattle.head.proofs.put_kind.Met as put-thm
-use Rattle.storage.proofs.fresh as after-it
-use Rattle.storage.proofs.fresh.Symbol as after-it-def
-use Rattle.storage.proofs.fresh.Symbol.{name as #storage·fresh}
-use Rattle.storage.proofs.fresh.Met as after-it-thm
+use Rattle.recording.proofs.fresh as after-it
+use Rattle.recording.proofs.fresh.Symbol as after-it-def
+use Rattle.recording.proofs.fresh.Symbol.{name as #recording·fresh}
+use Rattle.recording.proofs.fresh.Met as after-it-thm
 use Rattle.encoder.proofs.turns.start_records.Key.{name as #encoder·turns·start-records}
 use Rattle.encoder.proofs.turns.start_records as main
 use Rattle.encoder.proofs.turns.start_records.Statement as stated
@@ -144,7 +144,7 @@ module _ {M : Type 1} (𝓤 : URA M) (H : Heap 𝓤) (A : Atoms 𝓤) (W : Given
       nothing ! $ move ! (2 ∷ 0 ∷ []) $ join ! $ move ! (1 ∷ 0 ∷ []) $ join ! $ frame ! $ nothing ! $ move ! (2 ∷ 0 ∷ []) $ fjoin ! $ owned ! usize (Is usize) (uint-makes 𝓤 H A W w64) turns _ turns-is $
       fjoin ! $ move ! (1 ∷ 0 ∷ []) $ fjoin ! $ feqI ! (List Val) (vunit ∷ []) (vunit ∷ []) refl $ move ! (1 ∷ 0 ∷ []) $ done !
 
-  module _ (𝓣 : Tables 𝓤 H) (kp : Triple 𝓤 (𝓣 .C #head·put-kind) (Put 𝓤 H A mem run)) (kn : Triple 𝓤 (𝓣 .C #storage·fresh) (Next 𝓤 H A mem run)) (l₀ l₁ l₂ l₃ l₄ l₅ l₆ l₇ l₈ l₉ l₁₀ l₁₁ l₁₂ l₁₃ : ℕ) where
+  module _ (𝓣 : Tables 𝓤 H) (kp : Triple 𝓤 (𝓣 .C #head·put-kind) (Put 𝓤 H A mem run)) (kn : Triple 𝓤 (𝓣 .C #recording·fresh) (Next 𝓤 H A mem run)) (l₀ l₁ l₂ l₃ l₄ l₅ l₆ l₇ l₈ l₉ l₁₀ l₁₁ l₁₂ l₁₃ : ℕ) where
     abbrev En : Env 𝓤 H
     En = (tyUnit, l₀) ∷ (slice, l₁) ∷ (word, l₂) ∷ (bytes, l₃) ∷ (word, l₄) ∷ (T′.mir, l₅) ∷ (tyBool, l₆) ∷ (word, l₇) ∷ (tyPtr, l₈) ∷ (T′.mir, l₉) ∷ (tyUnit, l₁₀) ∷ (ref, l₁₁) ∷ (lent, l₁₂) ∷ (tyPtr, l₁₃) ∷ []
 
@@ -256,7 +256,7 @@ module _ {M : Type 1} (𝓤 : URA M) (H : Heap 𝓤) (A : Atoms 𝓤) (W : Given
         at-vals : {u : Val} → Is T.the-row (fresh r) (u ∷ []) → Is T.the-row (fresh r) (vals (fresh r))
         at-vals is = subst (Is T.the-row (fresh r)) (LL.tells T.the-type T′.the-laws (fresh r) _ is) is
 
-  walk : (𝓣 : Tables 𝓤 H) → Triple 𝓤 (𝓣 .C #head·put-kind) (Put 𝓤 H A mem run) → Triple 𝓤 (𝓣 .C #storage·fresh) (Next 𝓤 H A mem run)
+  walk : (𝓣 : Tables 𝓤 H) → Triple 𝓤 (𝓣 .C #head·put-kind) (Put 𝓤 H A mem run) → Triple 𝓤 (𝓣 .C #recording·fresh) (Next 𝓤 H A mem run)
       → ent 𝓤 (onEntry 𝓤 H A main.signature (κr, (κm, tt)) (qr, (qm, tt)) (xr γr ys, (turns, (xm γm ms, tt))) at) (WpFn 𝓤 H (𝓣 .C) (𝓣 .Λ) code.function (vr ∷ vint w64 turns ∷ vm ∷ []) Post)
   walk 𝓣 kp kn =
       qed W ((‵ (flft κr qr) ⊛ ‵ (flft κm qm) ⊛ ‵ ftrue) ∷ ‵ (owns (MutSlice (named 0) κr T.the-row ∷ usize ∷ MutSlice (named 1) κm u8 ∷ []) (xr γr ys, (turns, (xm γm ms, tt))) at) ∷ []) ∵
@@ -270,7 +270,7 @@ module _ {M : Type 1} (𝓤 : URA M) (H : Heap 𝓤) (A : Atoms 𝓤) (W : Given
       keep ! (5 ∷ 6 ∷ 7 ∷ 8 ∷ 9 ∷ 10 ∷ 11 ∷ 12 ∷ 13 ∷ 14 ∷ 15 ∷ 16 ∷ 17 ∷ 18 ∷ 19 ∷ 20 ∷ 21 ∷ 22 ∷ 23 ∷ 24 ∷ 25 ∷ 26 ∷ 27 ∷ 28 ∷ 29 ∷ 30 ∷ 31 ∷ 32 ∷ 1 ∷ 2 ∷ 3 ∷ 4 ∷ 0 ∷ 33 ∷ []) $
       first ! $ blocks ! $ loops ! 𝓣 (Nearer turns) (Nearer-wf turns) (At 𝓣 kp kn l₀ l₁ l₂ l₃ l₄ l₅ l₆ l₇ l₈ l₉ l₁₀ l₁₁ l₁₂ l₁₃) (turns-on 𝓣 kp kn l₀ l₁ l₂ l₃ l₄ l₅ l₆ l₇ l₈ l₉ l₁₀ l₁₁ l₁₂ l₁₃) (0, zero-le)))))))))))))))
 
-module _ {M : Type 1} (𝓤 : URA M) (H : Heap 𝓤) (A : Atoms 𝓤) (W : Given 𝓤 H A) (mem : Memory → SProp 𝓤) (run : Routine → Fun 𝓤) (𝓣 : Tables 𝓤 H) (kp : Triple 𝓤 (𝓣 .C #head·put-kind) (Put 𝓤 H A mem run)) (kn : Triple 𝓤 (𝓣 .C #storage·fresh) (Next 𝓤 H A mem run)) where
+module _ {M : Type 1} (𝓤 : URA M) (H : Heap 𝓤) (A : Atoms 𝓤) (W : Given 𝓤 H A) (mem : Memory → SProp 𝓤) (run : Routine → Fun 𝓤) (𝓣 : Tables 𝓤 H) (kp : Triple 𝓤 (𝓣 .C #head·put-kind) (Put 𝓤 H A mem run)) (kn : Triple 𝓤 (𝓣 .C #recording·fresh) (Next 𝓤 H A mem run)) where
   walks : Walks 𝓤 H A main.ended stayed (WpFn 𝓤 H (𝓣 .C) (𝓣 .Λ) code.function) (main.clauses 𝓤 H A mem run)
   walks = walked 𝓤 H A main.ended stayed (main.clauses 𝓤 H A mem run) (WpFn 𝓤 H (𝓣 .C) (𝓣 .Λ) code.function)
       (λ κs. (slice-vals, (uint-vals w64, (slice-vals, tt))))
@@ -290,4 +290,4 @@ start-records-spec 𝓤 H 𝓜 𝓖 𝓡 =
     (tables 𝓤 H 𝓜 𝓡 code.env .C) (tables 𝓤 H 𝓜 𝓡 code.env .Λ) #encoder·turns·start-records code.function (code.unfolded 𝓤 H 𝓜 𝓡)
     (meets 𝓤 H (𝓖 .A) (givenOf 𝓤 H 𝓜 𝓖) (𝓜 .mem) (𝓡 .run) (tablesOf 𝓤 H 𝓜 (tables 𝓤 H 𝓜 𝓡 code.env))
     (cited 𝓤 H (Put 𝓤 H (𝓖 .A) (𝓜 .mem) (𝓡 .run)) 𝓜 𝓡 code.env #head·put-kind put-def.routine code.calls-head·put-kind (put-thm.met 𝓤 H 𝓜 𝓖 𝓡))
-    (cited 𝓤 H (Next 𝓤 H (𝓖 .A) (𝓜 .mem) (𝓡 .run)) 𝓜 𝓡 code.env #storage·fresh after-it-def.routine code.calls-storage·fresh (after-it-thm.met 𝓤 H 𝓜 𝓖 𝓡)))
+    (cited 𝓤 H (Next 𝓤 H (𝓖 .A) (𝓜 .mem) (𝓡 .run)) 𝓜 𝓡 code.env #recording·fresh after-it-def.routine code.calls-recording·fresh (after-it-thm.met 𝓤 H 𝓜 𝓖 𝓡)))

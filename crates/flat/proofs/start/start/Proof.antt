@@ -31,7 +31,8 @@ returns c =
     let a = c .before .before .before .before .before .before .before .before .before .before .before .before .before .before .before .before .before .args in
     let e = c .before .before .before .before .before .before .before .before .before .before .begin .ensures in
     let k = c .before .before .before .before .before .start-records .ensures in
-    start-steps (a .state) (a .limit) (a .signals) (recordsOf (a .records .now)) (a .times .now) [] (a .image .now) _ _ _ _ (records-length (a .records .now)) (e .0) (e .1) _ _ (c .before .before .before .before .before .before .before .before .before .before .before .before .has-unknown-kind .ensures) (k .0) (k .1)
+    start-steps (a .state) (a .limit) (a .signals) (recordsOf (a .records .now)) (a .times .now) [] (a .image .now) _ _ _ _ (records-length (a .records .now)) (e .0) (e .1) _ _
+    (c .before .before .before .before .before .before .before .before .before .before .before .before .has-unknown-kind .ensures) (k .0) (k .1)
 
 pub start-spec : {M : Type 1} → statement M
 start-spec =

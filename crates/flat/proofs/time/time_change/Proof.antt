@@ -15,13 +15,16 @@ cut-records-requires : tie.Need-cut-records-requires
 cut-records-requires c κs =
     let a = c .before .before .before .before .before .before .before .before .before .before .before .args in
     let e = c .before .before .before .before .prepare-time .ensures in
-    loop-fits (recordsOf (a .records .now)) (a .times .now) (a .work .now) (a .image .now) _ _ _ (a .image .now) (e .0) (e .1) (time-carries (a .state) (recordsOf (a .records .now)) (a .times .now) (a .work .now) (a .image .now) _ (records-length (a .records .now)) (a .time))
+    loop-fits (recordsOf (a .records .now)) (a .times .now) (a .work .now) (a .image .now) _ _ _ (a .image .now) (e .0) (e .1)
+    (time-carries (a .state) (recordsOf (a .records .now)) (a .times .now) (a .work .now) (a .image .now) _ (records-length (a .records .now)) (a .time))
 
 complete-requires : tie.Need-complete-requires
 complete-requires c κs =
     let a = c .before .before .before .before .before .before .before .before .before .before .before .before .before .before .before .before .before .before .args in
     let e = c .before .before .before .before .before .before .before .before .before .before .before .prepare-time .ensures in
-    end-fits (recordsOf (a .records .now)) (a .times .now) (a .work .now) (a .image .now) _ _ _ _ (e .0) (e .1) (c .before .before .before .before .before .before .cut-records .ensures .1) (time-carries (a .state) (recordsOf (a .records .now)) (a .times .now) (a .work .now) (a .image .now) _ (records-length (a .records .now)) (a .time))
+    end-fits (recordsOf (a .records .now)) (a .times .now) (a .work .now) (a .image .now) _ _ _ _ (e .0) (e .1)
+    (c .before .before .before .before .before .before .cut-records .ensures .1)
+    (time-carries (a .state) (recordsOf (a .records .now)) (a .times .now) (a .work .now) (a .image .now) _ (records-length (a .records .now)) (a .time))
 
 same-length : tie.Need-same-length
 same-length c = search needs
@@ -34,7 +37,8 @@ same-length-3 c = search needs
 
 returns : tie.Need-returns
 returns c =
-    let a = c .before .before .before .before .before .before .before .before .before .before .before .before .before .before .before .before .before .before .before .before .before .before .before .args in
+    let a = c .before .before .before .before .before .before .before .before .before .before .before .before .before .before .before .before .before .before
+    .before .before .before .before .before .args in
     let e = c .before .before .before .before .before .before .before .before .before .before .before .before .before .before .before .before .prepare-time .ensures in
     let k = c .before .before .before .before .before .before .before .before .before .before .before .cut-records .ensures in
     let d = c .before .before .before .before .complete .ensures in

@@ -17,20 +17,17 @@ loop-holds c = search needs
 returns : tie.Need-returns Inv-loop μ-loop
 returns c = search needs
 
-slice-aggregate-print : tie.Need-slice-aggregate-print Inv-loop μ-loop
-slice-aggregate-print c = search needs
+slice-aggregate-print-count : tie.Need-slice-aggregate-print-count Inv-loop μ-loop
+slice-aggregate-print-count c = search needs
 
-print-requires : tie.Need-print-requires Inv-loop μ-loop
-print-requires c κs = search needs
+mul-print-count : tie.Need-mul-print-count Inv-loop μ-loop
+mul-print-count c = search needs
 
-mul-print-number-32 : tie.Need-mul-print-number-32 Inv-loop μ-loop
-mul-print-number-32 c = search needs
+shared-slice-read-print-count : tie.Need-shared-slice-read-print-count Inv-loop μ-loop
+shared-slice-read-print-count c = search needs
 
-shared-slice-read-print-number-32 : tie.Need-shared-slice-read-print-number-32 Inv-loop μ-loop
-shared-slice-read-print-number-32 c = search needs
-
-print-number-32-requires : tie.Need-print-number-32-requires Inv-loop μ-loop
-print-number-32-requires c κs = search needs
+print-count-requires : tie.Need-print-count-requires Inv-loop μ-loop
+print-count-requires c κs = search needs
 
 add-i : tie.Need-add-i Inv-loop μ-loop
 add-i c = search needs
@@ -52,11 +49,10 @@ print-indices-spec =
     μ-loop
     loop-holds
     returns
-    slice-aggregate-print
-    print-requires
-    mul-print-number-32
-    shared-slice-read-print-number-32
-    print-number-32-requires
+    slice-aggregate-print-count
+    mul-print-count
+    shared-slice-read-print-count
+    print-count-requires
     add-i
     loop-less
     loop-again

@@ -1,6 +1,6 @@
 -- The answer as numbers.
 -- Assumes nothing.
-use Rattle.interface.proofs.AnswerLaws.{cursor-told}
+use Rattle.interface_answers.proofs.AnswerLaws.{cursor-told}
 use borrow.Author.Needs.{needs}
 use Rattle.interface.proofs.bytes.wejumo_cursor.Statement.{statement}
 use Rattle.interface.proofs.bytes.wejumo_cursor.Tie as tie

@@ -4,9 +4,9 @@ use mathlib.Core.Path.{ap, _∙_}
 use Rattle.value.specs.declared.states.States.{States}
 use Rattle.value.specs.Class.{classNumber}
 use Rattle.signal.specs.declared.kind.SignalEncoding.{SignalEncoding}
-use Rattle.storage.specs.Storage.{kindFrom}
-use Rattle.entry.specs.Answer.{entryValueOf}
-use Rattle.interface.proofs.AnswerLaws.{entry-told}
+use Rattle.image.specs.Head.{kindFrom}
+use Rattle.interface_answers.proofs.AnswerLaws.{entry-told}
+use Rattle.entry_answer.specs.Answer.{entryValueOf}
 use borrow.Author.Needs.{needs}
 use Rattle.interface.proofs.bytes.wejumo_entry_value.Statement.{statement}
 use Rattle.interface.proofs.bytes.wejumo_entry_value.Tie as tie
@@ -27,7 +27,13 @@ same-length : tie.Need-same-length
 same-length c = search needs
 
 returns : tie.Need-returns
-returns c = let a = c .before .before .before .before .before .before .before .before .before .args in entry-told _ _ _ _ (c .entry-numbers .ensures) (c .before .before .before .entry-value .ensures ∙ ap (λ (k : SignalEncoding). entryValueOf k (classNumber (c .before .before .before .before .before .states-from .result)) (a .bytes .now) (a .out .now)) (c .before .before .before .before .before .before .kind-from .ensures) ∙ ap (λ (s : States). entryValueOf (kindFrom (a .kind)) (classNumber s) (a .bytes .now) (a .out .now)) (c .before .before .before .before .before .states-from .ensures))
+returns c =
+    let a = c .before .before .before .before .before .before .before .before .before .args in
+    entry-told _ _ _ _ (c .entry-numbers .ensures)
+    (c .before .before .before .entry-value .ensures
+    ∙ ap (λ (k : SignalEncoding). entryValueOf k (classNumber (c .before .before .before .before .before .states-from .result)) (a .bytes .now) (a .out .now))
+    (c .before .before .before .before .before .before .kind-from .ensures)
+    ∙ ap (λ (s : States). entryValueOf (kindFrom (a .kind)) (classNumber s) (a .bytes .now) (a .out .now)) (c .before .before .before .before .before .states-from .ensures))
 
 pub wejumo-entry-value-spec : {M : Type 1} → statement M
 wejumo-entry-value-spec =

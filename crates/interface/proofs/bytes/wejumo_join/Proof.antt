@@ -1,6 +1,6 @@
 -- The answer as numbers.
 -- Assumes nothing.
-use Rattle.interface.proofs.AnswerLaws.{join-told}
+use Rattle.interface_answers.proofs.AnswerLaws.{join-told}
 use borrow.Author.Needs.{needs}
 use Rattle.interface.proofs.bytes.wejumo_join.Statement.{statement}
 use Rattle.interface.proofs.bytes.wejumo_join.Tie as tie

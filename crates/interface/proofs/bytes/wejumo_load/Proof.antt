@@ -1,6 +1,6 @@
 -- The answer as numbers.
 -- Assumes nothing.
-use Rattle.interface.proofs.AnswerLaws.{load-told}
+use Rattle.interface_answers.proofs.AnswerLaws.{load-told}
 use borrow.Author.Needs.{needs}
 use Rattle.interface.proofs.bytes.wejumo_load.Statement.{statement}
 use Rattle.interface.proofs.bytes.wejumo_load.Tie as tie

@@ -1,6 +1,6 @@
 -- The answer as numbers.
 -- Assumes nothing.
-use Rattle.interface.proofs.AnswerLaws.{table-told}
+use Rattle.interface_answers.proofs.AnswerLaws.{table-told}
 use borrow.Author.Needs.{needs}
 use Rattle.interface.proofs.bytes.wejumo_table.Statement.{statement}
 use Rattle.interface.proofs.bytes.wejumo_table.Tie as tie

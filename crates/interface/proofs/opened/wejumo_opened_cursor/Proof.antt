@@ -2,7 +2,7 @@
 -- Assumes nothing.
 use mathlib.Core.Path.{sym, _∙_}
 use Rattle.walk.proofs.OpenLaws.{cursor-opened}
-use Rattle.interface.proofs.AnswerLaws.{cursor-told}
+use Rattle.interface_answers.proofs.AnswerLaws.{cursor-told}
 use borrow.Author.Needs.{needs}
 use Rattle.interface.proofs.opened.wejumo_opened_cursor.Statement.{statement}
 use Rattle.interface.proofs.opened.wejumo_opened_cursor.Tie as tie
@@ -17,7 +17,11 @@ same-length : tie.Need-same-length
 same-length c = search needs
 
 returns : tie.Need-returns
-returns c = let a = c .before .before .before .before .before .before .before .args in cursor-told _ _ _ _ (c .cursor-numbers .ensures) (c .before .before .before .cursor-in .ensures ∙ sym (cursor-opened (a .image .now) (a .signal) (a .time) (a .out .now) (c .before .before .before .before .before .before .before .pre)))
+returns c =
+    let a = c .before .before .before .before .before .before .before .args in
+    cursor-told _ _ _ _ (c .cursor-numbers .ensures)
+    (c .before .before .before .cursor-in .ensures
+    ∙ sym (cursor-opened (a .image .now) (a .signal) (a .time) (a .out .now) (c .before .before .before .before .before .before .before .pre)))
 
 pub wejumo-opened-cursor-spec : {M : Type 1} → statement M
 wejumo-opened-cursor-spec =

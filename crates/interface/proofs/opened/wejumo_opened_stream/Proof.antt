@@ -5,7 +5,7 @@ use mathlib.Core.Path.{sym, _∙_}
 use lib.ListN.{length}
 use native.Mathlib.Omega.{arith}
 use Rattle.walk.specs.Walk.{imageIn, BlockHere, PartHere}
-use Rattle.walk.proofs.PartLaws.{stream-of, stream-past, stream-place-past}
+use Rattle.walk_part.proofs.PartLaws.{stream-of, stream-past, stream-place-past}
 use borrow.Author.Needs.{needs}
 use Rattle.interface.proofs.opened.wejumo_opened_stream.Statement.{statement}
 use Rattle.interface.proofs.opened.wejumo_opened_stream.Tie as tie
@@ -33,13 +33,17 @@ block-start-requires c κs = search needs
 part-in-requires : tie.Need-part-in-requires
 part-in-requires c κs = (c .before .before .before .before .pre, (c .before .before .before .before .args .block, standing c))
 
-sub-t7 : tie.Need-sub-t7
-sub-t7 c = found (c .before) .ordered
+part-numbers-requires : tie.Need-part-numbers-requires
+part-numbers-requires c κs = found c .ordered
 
 returns-2 : tie.Need-returns-2
-returns-2 c = let a = c .before .before .before .before .before .before .args in let w = found (c .before) in (w .stream ∙ sym (stream-of (a .image .now) (a .block) (a .signal)), omega (arith, w .ordered, w .inside), w .begin)
+returns-2 c =
+    let a = c .before .before .before .before .before .before .args in
+    let w = found (c .before) in
+    let n = c .part-numbers .ensures in
+    (rw (n .0, n .1) (w .stream ∙ sym (stream-of (a .image .now) (a .block) (a .signal))), omega (arith, w .ordered, w .inside, n .0, n .1), n .0 ∙ w .begin)
 
 pub wejumo-opened-stream-spec : {M : Type 1} → statement M
 wejumo-opened-stream-spec =
     tie.close
-    (tie.spec block-count-requires returns block-start-requires part-in-requires sub-t7 returns-2)
+    (tie.spec block-count-requires returns block-start-requires part-in-requires part-numbers-requires returns-2)

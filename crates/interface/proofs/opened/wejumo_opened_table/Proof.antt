@@ -2,7 +2,7 @@
 -- Assumes nothing.
 use mathlib.Core.Path.{sym, _∙_}
 use Rattle.walk.proofs.OpenLaws.{table-opened}
-use Rattle.interface.proofs.AnswerLaws.{table-told}
+use Rattle.interface_answers.proofs.AnswerLaws.{table-told}
 use borrow.Author.Needs.{needs}
 use Rattle.interface.proofs.opened.wejumo_opened_table.Statement.{statement}
 use Rattle.interface.proofs.opened.wejumo_opened_table.Tie as tie
@@ -17,7 +17,10 @@ same-length : tie.Need-same-length
 same-length c = search needs
 
 returns : tie.Need-returns
-returns c = let a = c .before .before .before .before .before .before .before .args in table-told _ _ _ _ (c .table-numbers .ensures) (c .before .before .before .table-in .ensures ∙ sym (table-opened (a .image .now) (a .out .now) (c .before .before .before .before .before .before .before .pre)))
+returns c =
+    let a = c .before .before .before .before .before .before .before .args in
+    table-told _ _ _ _ (c .table-numbers .ensures)
+    (c .before .before .before .table-in .ensures ∙ sym (table-opened (a .image .now) (a .out .now) (c .before .before .before .before .before .before .before .pre)))
 
 pub wejumo-opened-table-spec : {M : Type 1} → statement M
 wejumo-opened-table-spec =

@@ -4,7 +4,7 @@ use Rattle.recording.specs.declared.Encoder.{Encoder}
 use Rattle.recording.specs.Memory.{memory}
 use Rattle.recording.specs.Step.{finishOf}
 use Rattle.storage.specs.Storage.{recordsOf}
-use Rattle.interface.proofs.ToldLaws.{told-made}
+use Rattle.interface_answers.proofs.ToldLaws.{told-made}
 use borrow.Author.Needs.{needs}
 use Rattle.interface.proofs.recorder.wejumo_finish.Statement.{statement}
 use Rattle.interface.proofs.recorder.wejumo_finish.Tie as tie
@@ -30,7 +30,9 @@ same-length-3 c = search needs
 returns : tie.Need-returns
 returns c =
     let a = c .before .before .before .before .before .before .before .before .before .before .before .before .before .before .before .before .args in
-    told-made (a .state) (λ (s : Encoder). finishOf (memory s (recordsOf (a .records .now)) (a .times .now) (a .work .now) (a .image .now))) _ _ _ _ _ _ _ _ (c .before .before .before .before .before .before .before .before .before .before .before .state-from .ensures) (c .before .before .before .before .before .before .before .finish .ensures) (c .outcome-numbers .ensures)
+    told-made (a .state) (λ (s : Encoder). finishOf (memory s (recordsOf (a .records .now)) (a .times .now) (a .work .now) (a .image .now))) _ _ _ _ _ _ _ _
+    (c .before .before .before .before .before .before .before .before .before .before .before .state-from .ensures)
+    (c .before .before .before .before .before .before .before .finish .ensures) (c .outcome-numbers .ensures)
 
 pub wejumo-finish-spec : {M : Type 1} → statement M
 wejumo-finish-spec =

@@ -5,7 +5,7 @@ use Rattle.recording.specs.declared.Encoder.{Encoder}
 use Rattle.recording.specs.Memory.{memory}
 use Rattle.recording.specs.Step.{startOf}
 use Rattle.storage.specs.Storage.{recordsOf}
-use Rattle.interface.proofs.ToldLaws.{told-made}
+use Rattle.interface_answers.proofs.ToldLaws.{told-made}
 use borrow.Author.Needs.{needs}
 use Rattle.interface.proofs.recorder.wejumo_start.Statement.{statement}
 use Rattle.interface.proofs.recorder.wejumo_start.Tie as tie
@@ -28,7 +28,9 @@ same-length-2 c = search needs
 returns : tie.Need-returns
 returns c =
     let a = c .before .before .before .before .before .before .before .before .before .before .before .before .args in
-    told-made (a .state) (λ (s : Encoder). startOf (a .limit) (a .signals) (memory s (recordsOf (a .records .now)) (a .times .now) [] (a .image .now))) _ _ _ _ _ _ _ _ (c .before .before .before .before .before .before .before .before .state-from .ensures) (c .before .before .before .before .before .start .ensures) (c .outcome-numbers .ensures)
+    told-made (a .state) (λ (s : Encoder). startOf (a .limit) (a .signals) (memory s (recordsOf (a .records .now)) (a .times .now) [] (a .image .now))) _ _ _ _ _ _ _ _
+    (c .before .before .before .before .before .before .before .before .state-from .ensures) (c .before .before .before .before .before .start .ensures)
+    (c .outcome-numbers .ensures)
 
 pub wejumo-start-spec : {M : Type 1} → statement M
 wejumo-start-spec =

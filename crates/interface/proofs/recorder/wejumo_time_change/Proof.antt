@@ -4,7 +4,7 @@ use Rattle.recording.specs.declared.Encoder.{Encoder}
 use Rattle.recording.specs.Memory.{memory}
 use Rattle.recording.specs.Step.{timeOf}
 use Rattle.storage.specs.Storage.{recordsOf}
-use Rattle.interface.proofs.ToldLaws.{told-made}
+use Rattle.interface_answers.proofs.ToldLaws.{told-made}
 use borrow.Author.Needs.{needs}
 use Rattle.interface.proofs.recorder.wejumo_time_change.Statement.{statement}
 use Rattle.interface.proofs.recorder.wejumo_time_change.Tie as tie
@@ -30,7 +30,9 @@ same-length-3 c = search needs
 returns : tie.Need-returns
 returns c =
     let a = c .before .before .before .before .before .before .before .before .before .before .before .before .before .before .before .before .args in
-    told-made (a .state) (λ (s : Encoder). timeOf (memory s (recordsOf (a .records .now)) (a .times .now) (a .work .now) (a .image .now)) (a .time)) _ _ _ _ _ _ _ _ (c .before .before .before .before .before .before .before .before .before .before .before .state-from .ensures) (c .before .before .before .before .before .before .before .time-change .ensures) (c .outcome-numbers .ensures)
+    told-made (a .state) (λ (s : Encoder). timeOf (memory s (recordsOf (a .records .now)) (a .times .now) (a .work .now) (a .image .now)) (a .time)) _ _ _ _ _ _ _ _
+    (c .before .before .before .before .before .before .before .before .before .before .before .state-from .ensures)
+    (c .before .before .before .before .before .before .before .time-change .ensures) (c .outcome-numbers .ensures)
 
 pub wejumo-time-change-spec : {M : Type 1} → statement M
 wejumo-time-change-spec =

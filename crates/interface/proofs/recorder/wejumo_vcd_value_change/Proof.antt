@@ -5,7 +5,7 @@ use Rattle.recording.specs.declared.Encoder.{Encoder}
 use Rattle.recording.specs.Memory.{memory}
 use Rattle.recording.specs.Step.{changeOf}
 use Rattle.storage.specs.Storage.{recordsOf}
-use Rattle.interface.proofs.ToldLaws.{told-made}
+use Rattle.interface_answers.proofs.ToldLaws.{told-made}
 use borrow.Author.Needs.{needs}
 use Rattle.interface.proofs.recorder.wejumo_vcd_value_change.Statement.{statement}
 use Rattle.interface.proofs.recorder.wejumo_vcd_value_change.Tie as tie
@@ -28,7 +28,10 @@ same-length-2 c = search needs
 returns : tie.Need-returns
 returns c =
     let a = c .before .before .before .before .before .before .before .before .before .before .before .before .before .before .args in
-    told-made (a .state) (λ (s : Encoder). changeOf (memory s (recordsOf (a .records .now)) (a .times .now) (a .work .now) (a .image .now)) (a .signal) (vcd (a .value .now))) _ _ _ _ _ _ _ _ (c .before .before .before .before .before .before .before .before .state-from .ensures) (c .before .before .before .before .before .vcd-value-change .ensures) (c .outcome-numbers .ensures)
+    told-made (a .state)
+    (λ (s : Encoder). changeOf (memory s (recordsOf (a .records .now)) (a .times .now) (a .work .now) (a .image .now)) (a .signal) (vcd (a .value .now))) _ _ _ _ _ _ _ _
+    (c .before .before .before .before .before .before .before .before .state-from .ensures) (c .before .before .before .before .before .vcd-value-change .ensures)
+    (c .outcome-numbers .ensures)
 
 pub wejumo-vcd-value-change-spec : {M : Type 1} → statement M
 wejumo-vcd-value-change-spec =

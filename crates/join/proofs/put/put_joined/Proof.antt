@@ -92,7 +92,8 @@ returns c =
     rw (e3 .1, e2 .1, e1 .1)
     (three-sets (take 8 a ++ (le 4 n ++ le 4 t)) (take (length a - 16) (drop 16 a)) (take (length b - h) (drop h b)) (s .args .out .now) 0 _ _ refl
     (omega (arith, e1 .0, z .numbers n t)) (omega (arith, e2 .0, z .rest))
-    ∙ ap (sets (s .args .out .now) 0) (sym (joined-bytes a b (λ j. k .before .before .before .before .shared-slice-known .given j .fits) (λ j. k .before .before .before .shared-slice-known2 .given j .fits)
+    ∙ ap (sets (s .args .out .now) 0)
+    (sym (joined-bytes a b (λ j. k .before .before .before .before .shared-slice-known .given j .fits) (λ j. k .before .before .before .shared-slice-known2 .given j .fits)
     (s .pre .0 .0) (s .pre .0 .1) (s .pre .0 .2) n h t (sums k) (f .first-block .ensures ∙ first-place (imageIn b)) (s .pre .1 .0))))
   where
     sums : (k : tie.After-block-count2) → let a = k .before .before .before .before .before .args in

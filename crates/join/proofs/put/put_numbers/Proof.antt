@@ -35,7 +35,8 @@ returns c =
     let e3 = total .put-u322 .ensures in
     let l = length-take-le 8 (a .first .now) (omega (arith, s .pre .0)) in (
       omega (arith, e1 .0, e2 .0, e3 .0),
-      rw (e3 .1, e2 .1, e1 .1) (three-sets (take 8 (a .first .now)) (le 4 (a .blocks)) (le 4 (a .total)) (a .out .now) 0 _ _ refl (omega (arith, e1 .0, l)) (omega (arith, e2 .0, length-le 4 (a .blocks)))),
+      rw (e3 .1, e2 .1, e1 .1)
+          (three-sets (take 8 (a .first .now)) (le 4 (a .blocks)) (le 4 (a .total)) (a .out .now) 0 _ _ refl (omega (arith, e1 .0, l)) (omega (arith, e2 .0, length-le 4 (a .blocks)))),
     )
 
 pub put-numbers-spec : {M : Type 1} → statement M

@@ -14,7 +14,9 @@ block-limit-requires-2 : tie.Need-block-limit-requires-2
 block-limit-requires-2 c κs = search needs
 
 returns : tie.Need-returns
-returns c = let a = c .before .before .before .before .before .args in differs-limit (imageIn (a .first .now)) (imageIn (a .second .now)) _ _ (c .before .before .block-limit .ensures) (c .before .block-limit2 .ensures) (c .if1 .taken)
+returns c =
+    let a = c .before .before .before .before .before .args in
+    differs-limit (imageIn (a .first .now)) (imageIn (a .second .now)) _ _ (c .before .before .block-limit .ensures) (c .before .block-limit2 .ensures) (c .if1 .taken)
 
 signal-count-requires : tie.Need-signal-count-requires
 signal-count-requires c κs = search needs
@@ -25,15 +27,20 @@ signal-count-requires-2 c κs = search needs
 returns-2 : tie.Need-returns-2
 returns-2 c =
     let a = c .before .before .before .before .before .before .before .before .args in
-    differs-signals (imageIn (a .first .now)) (imageIn (a .second .now)) _ _ _ _ (c .before .before .before .before .before .block-limit .ensures) (c .before .before .before .before .block-limit2 .ensures) (c .before .before .before .if1 .left) (c .before .before .signal-count .ensures) (c .before .signal-count2 .ensures) (c .if2 .taken)
+    differs-signals (imageIn (a .first .now)) (imageIn (a .second .now)) _ _ _ _ (c .before .before .before .before .before .block-limit .ensures)
+    (c .before .before .before .before .block-limit2 .ensures) (c .before .before .before .if1 .left) (c .before .before .signal-count .ensures)
+    (c .before .signal-count2 .ensures) (c .if2 .taken)
 
 same-kinds-requires : tie.Need-same-kinds-requires
-same-kinds-requires c κs = let s = c .before .before .before .before .before .before .before .before in (s .pre .0, s .pre .1, sym (c .before .signal-count2 .ensures) ∙ sym (c .if2 .left) ∙ c .before .before .signal-count .ensures)
+same-kinds-requires c κs =
+    let s = c .before .before .before .before .before .before .before .before in
+    (s .pre .0, s .pre .1, sym (c .before .signal-count2 .ensures) ∙ sym (c .if2 .left) ∙ c .before .before .signal-count .ensures)
 
 returns-3 : tie.Need-returns-3
 returns-3 c =
     let a = c .before .before .before .before .before .before .before .before .before .args in
-    differs-kinds (imageIn (a .first .now)) (imageIn (a .second .now)) _ _ _ (c .before .before .before .before .before .before .block-limit .ensures) (c .before .before .before .before .before .block-limit2 .ensures) (c .before .before .before .before .if1 .left) (c .same-kinds .ensures)
+    differs-kinds (imageIn (a .first .now)) (imageIn (a .second .now)) _ _ _ (c .before .before .before .before .before .before .block-limit .ensures)
+    (c .before .before .before .before .before .block-limit2 .ensures) (c .before .before .before .before .if1 .left) (c .same-kinds .ensures)
 
 pub differs-spec : {M : Type 1} → statement M
 differs-spec =

@@ -12,7 +12,9 @@ use Rattle.join.proofs.tests.same_kinds.Statement.{statement}
 use Rattle.join.proofs.tests.same_kinds.Tie as tie
 
 abbrev Inv-loop : tie.InvT-loop
-Inv-loop first second n i₀ i = (e : length (imageIn second .kinds) ≡ length (imageIn first .kinds)) × (i ≤ n) × (sameFrom (imageIn first .kinds) (imageIn second .kinds) e i ≡ sameFrom (imageIn first .kinds) (imageIn second .kinds) e 0)
+Inv-loop first second n i₀ i =
+    (e : length (imageIn second .kinds) ≡ length (imageIn first .kinds)) × (i ≤ n) ×
+    (sameFrom (imageIn first .kinds) (imageIn second .kinds) e i ≡ sameFrom (imageIn first .kinds) (imageIn second .kinds) e 0)
 
 abbrev μ-loop : tie.MeasureT-loop
 μ-loop first second n i₀ i = n - i
@@ -42,7 +44,8 @@ returns c =
     let xs = imageIn (a .first .now) .kinds in
     let ys = imageIn (a .second .now) .kinds in
     let i : l .i < length xs = omega (arith, c .before .before .before .before .before .loop-test .taken, c .before .before .before .before .before .before .before .signal-count .ensures) in
-    same-not xs ys (l .inv .0) (l .i) _ _ i (c .before .before .before .kind-number .ensures ∙ ap kindNumber (c .before .before .before .before .kind-at .ensures)) (c .before .kind-number2 .ensures ∙ ap kindNumber (c .before .before .kind-at2 .ensures)) (c .if1 .taken) ∙ l .inv .2 ∙ same-all xs ys (l .inv .0)
+    same-not xs ys (l .inv .0) (l .i) _ _ i (c .before .before .before .kind-number .ensures ∙ ap kindNumber (c .before .before .before .before .kind-at .ensures))
+    (c .before .kind-number2 .ensures ∙ ap kindNumber (c .before .before .kind-at2 .ensures)) (c .if1 .taken) ∙ l .inv .2 ∙ same-all xs ys (l .inv .0)
 
 add-i : tie.Need-add-i Inv-loop μ-loop
 add-i c = omega arith
@@ -56,8 +59,12 @@ loop-again c =
     let l = c .before .before .before .before .before .before .loop in
     let xs = imageIn (a .first .now) .kinds in
     let ys = imageIn (a .second .now) .kinds in
-    let i : l .i < length xs = omega (arith, c .before .before .before .before .before .loop-test .taken, c .before .before .before .before .before .before .before .signal-count .ensures) in
-    (l .inv .0, omega arith, sym (same-on xs ys (l .inv .0) (l .i) _ _ i (c .before .before .before .kind-number .ensures ∙ ap kindNumber (c .before .before .before .before .kind-at .ensures)) (c .before .kind-number2 .ensures ∙ ap kindNumber (c .before .before .kind-at2 .ensures)) (c .if1 .left)) ∙ l .inv .2)
+    let i : l .i < length xs = omega (arith, c .before .before .before .before .before .loop-test .taken, c .before .before .before .before .before .before .before .signal-count .ensures) in (
+      l .inv .0,
+      omega arith,
+      sym (same-on xs ys (l .inv .0) (l .i) _ _ i (c .before .before .before .kind-number .ensures ∙ ap kindNumber (c .before .before .before .before .kind-at .ensures))
+          (c .before .kind-number2 .ensures ∙ ap kindNumber (c .before .before .kind-at2 .ensures)) (c .if1 .left)) ∙ l .inv .2,
+    )
 
 returns-2 : tie.Need-returns-2 Inv-loop μ-loop
 returns-2 c =

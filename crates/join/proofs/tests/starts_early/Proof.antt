@@ -28,7 +28,9 @@ block-count-requires : tie.Need-block-count-requires
 block-count-requires c κs = search needs
 
 returns : tie.Need-returns
-returns c = let s = c .before .before .before .before in early-none (endAfter none (imageIn (s .args .first .now) .blocks)) (imageIn (s .args .second .now) .blocks) _ (c .before .block-count .ensures) (c .if1 .taken)
+returns c =
+    let s = c .before .before .before .before in
+    early-none (endAfter none (imageIn (s .args .first .now) .blocks)) (imageIn (s .args .second .now) .blocks) _ (c .before .block-count .ensures) (c .if1 .taken)
 
 block-count-requires-2 : tie.Need-block-count-requires-2
 block-count-requires-2 c κs = search needs
@@ -46,7 +48,15 @@ first-block-requires : tie.Need-first-block-requires
 first-block-requires c κs = search needs
 
 time-at-requires : tie.Need-time-at-requires
-time-at-requires c κs = let s = c .before .before .before .before .before .before .before .before in (s .pre .1, (0, begun c, any-time 0 (s .args .second .now) (λ j. c .before .before .before .before .before .before .shared-slice-known2 .given j .fits) (s .pre .1) (begun c .exists)))
+time-at-requires c κs =
+    let s = c .before .before .before .before .before .before .before .before in (
+      s .pre .1,
+      (
+        0,
+        begun c,
+        any-time 0 (s .args .second .now) (λ j. c .before .before .before .before .before .before .shared-slice-known2 .given j .fits) (s .pre .1) (begun c .exists),
+      ),
+    )
 
 returns-2 : tie.Need-returns-2
 returns-2 c =
@@ -54,7 +64,8 @@ returns-2 c =
     let x = imageIn (s .args .first .now) in
     let y = imageIn (s .args .second .now) in
     early-some (x .blocks) (y .blocks) _ _ (block-there (x .blocks) (s .pre .2)) (begun (c .before) .exists)
-    (c .before .before .last-time .ensures _ (ended (c .before .before .before)) ∙ ap (λ (m : ℕ). lastOr 0 (blockAt x (m - 1) .times)) (c .before .before .before .before .block-count2 .ensures)) (c .time-at .ensures 0 (begun (c .before)))
+    (c .before .before .last-time .ensures _ (ended (c .before .before .before))
+    ∙ ap (λ (m : ℕ). lastOr 0 (blockAt x (m - 1) .times)) (c .before .before .before .before .block-count2 .ensures)) (c .time-at .ensures 0 (begun (c .before)))
 
 pub starts-early-spec : {M : Type 1} → statement M
 starts-early-spec =

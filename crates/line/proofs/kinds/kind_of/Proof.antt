@@ -62,12 +62,20 @@ enum-told c = search needs
 returns-4 : tie.Need-returns-4
 returns-4 c =
     let e = number32-read _ _ _ _ (c .before .before .before .before .decimal-32 .ensures) refl (c .before .before .width .given .1) in
-    rw (kind-number _ (not-event (c .before .before .before .before .before .before .before .before .before .before .before)) (not-real (c .before .before .before .before .before .before .before .before)) (not-absent (c .before .before .before .before .before)), e) (ap some (c .vector .ensures))
+    rw (
+      kind-number _ (not-event (c .before .before .before .before .before .before .before .before .before .before .before))
+          (not-real (c .before .before .before .before .before .before .before .before)) (not-absent (c .before .before .before .before .before)),
+      e,
+    ) (ap some (c .vector .ensures))
 
 returns-5 : tie.Need-returns-5
 returns-5 c =
     let e = number32-read _ _ _ _ (c .before .before .decimal-32 .ensures) refl (c .enum-told .given .1) in
-    rw (kind-number _ (not-event (c .before .before .before .before .before .before .before .before .before)) (not-real (c .before .before .before .before .before .before)) (not-absent (c .before .before .before)), e) refl
+    rw (
+      kind-number _ (not-event (c .before .before .before .before .before .before .before .before .before)) (not-real (c .before .before .before .before .before .before))
+          (not-absent (c .before .before .before)),
+      e,
+    ) refl
 
 pub kind-of-spec : {M : Type 1} → statement M
 kind-of-spec =

@@ -23,7 +23,9 @@ same-length : tie.Need-same-length
 same-length c = search needs
 
 returns : tie.Need-returns
-returns c = rw (← (sym (ap kindInside (c .before .before .before .before .before .kind .given .1)) ∙ c .before .before .before .before .before .before .before .kind-of .ensures)) (c .before .before .put-record .ensures)
+returns c =
+    rw (← (sym (ap kindInside (c .before .before .before .before .before .kind .given .1)) ∙ c .before .before .before .before .before .before .before .kind-of .ensures))
+    (c .before .before .put-record .ensures)
 
 returns-2 : tie.Need-returns-2
 returns-2 c = rw (← (sym (ap kindInside (c .enum-told .given .1)) ∙ c .before .before .kind-of .ensures)) refl

@@ -27,7 +27,9 @@ Inv-loop records₀ line n at₀ k₀ records at k =
 abbrev μ-loop : tie.MeasureT-loop
 μ-loop records₀ line n at₀ k₀ records at k = n - k
 
-all-kinds : (c : tie.After-count-words Inv-loop μ-loop) → (length (wordsOf (c .before .before .before .before .before .args .line .now)) ≤ 259) × (kindsOf (drop 3 (wordsOf (c .before .before .before .before .before .args .line .now))) ≡ some (kindList (c .before .before .before .before .before .args .line .now)))
+all-kinds : (c : tie.After-count-words Inv-loop μ-loop)
+    → (length (wordsOf (c .before .before .before .before .before .args .line .now)) ≤ 259) ×
+    (kindsOf (drop 3 (wordsOf (c .before .before .before .before .before .args .line .now))) ≡ some (kindList (c .before .before .before .before .before .args .line .now)))
 all-kinds c = list-some (c .before .before .before .before .before .args .line .now) (sym (c .before .before .has-kinds .ensures) ∙ not-false _ (c .before .if1 .left))
 
 has-kinds-requires : tie.Need-has-kinds-requires Inv-loop μ-loop

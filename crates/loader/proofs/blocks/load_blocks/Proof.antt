@@ -66,19 +66,24 @@ load-block-requires c κs =
         base-early (a .image .now) (a .signal) (classNumber (a .class)) (a .write) (a .index .now) (a .bytes .now) (l .number) (l .at) (l .times) (l .later) (l .end) (l .state) (l .index) (l .bytes)
             (λ j. f .before .before .before .before .shared-slice-known .given j .fits) (f .before .before .before .before .before .pre .0) (l .inv) (below t) _ _ e refl,
         l .inv .few,
+        l .inv .used,
       ),
       (
         l .number,
         found t,
         next-class (a .image .now) (a .signal) (classNumber (a .class)) (a .write) (a .index .now) (a .bytes .now) (l .number) (l .at) (l .times) (l .later) (l .end) (l .state) (l .index) (l .bytes)
-            (λ j. f .before .before .before .before .shared-slice-known .given j .fits) (f .before .before .before .before .before .pre .0) (l .inv) (below t) (f .before .before .before .before .before .pre .1),
+            (λ j. f .before .before .before .before .shared-slice-known .given j .fits) (f .before .before .before .before .before .pre .0) (l .inv) (below t)
+            (f .before .before .before .before .before .pre .1),
         next-room (a .image .now) (a .signal) (classNumber (a .class)) (a .write) (a .index .now) (a .bytes .now) (l .number) (l .at) (l .times) (l .later) (l .end) (l .state) (l .index) (l .bytes)
-            (λ j. f .before .before .before .before .shared-slice-known .given j .fits) (f .before .before .before .before .before .pre .0) (l .inv) (below t) _ _ e refl (f .before .before .before .before .before .pre .2),
+            (λ j. f .before .before .before .before .shared-slice-known .given j .fits) (f .before .before .before .before .before .pre .0) (l .inv) (below t) _ _ e refl
+            (f .before .before .before .before .before .pre .2),
       ),
     )
 
 times-in-requires : tie.Need-times-in-requires Inv-loop μ-loop
-times-in-requires c κs = let t = c .before .before .before .before .before .before .before .before in let f = t .before .before .before in (f .before .before .before .before .before .pre .0, (t .before .loop .number, found t))
+times-in-requires c κs =
+    let t = c .before .before .before .before .before .before .before .before in let f = t .before .before .before in
+    (f .before .before .before .before .before .pre .0, (t .before .loop .number, found t))
 
 add-times : tie.Need-add-times Inv-loop μ-loop
 add-times c =
@@ -86,17 +91,24 @@ add-times c =
     let l = t .before .loop in
     let f = t .before .before .before in
     let a = f .before .before .before .before .before .args in
-    let n = next-times (a .image .now) (a .signal) (classNumber (a .class)) (a .write) (a .index .now) (a .bytes .now) (l .number) (l .at) (l .times) (l .later) (l .end) (l .state) (l .index) (l .bytes)
+    let n = next-times (a .image .now) (a .signal) (classNumber (a .class)) (a .write) (a .index .now) (a .bytes .now) (l .number) (l .at) (l .times) (l .later) (l .end)
+    (l .state) (l .index) (l .bytes)
     (λ j. f .before .before .before .before .shared-slice-known .given j .fits) (f .before .before .before .before .before .pre .0) (l .inv) (below t) in
-    let e = base-early (a .image .now) (a .signal) (classNumber (a .class)) (a .write) (a .index .now) (a .bytes .now) (l .number) (l .at) (l .times) (l .later) (l .end) (l .state) (l .index) (l .bytes)
-    (λ j. f .before .before .before .before .shared-slice-known .given j .fits) (f .before .before .before .before .before .pre .0) (l .inv) (below t) _ _ (c .before .before .before .before .before .before .before .before .shared .ensures (l .number) (found t)) refl in
+    let e = base-early (a .image .now) (a .signal) (classNumber (a .class)) (a .write) (a .index .now) (a .bytes .now) (l .number) (l .at) (l .times) (l .later) (l .end)
+    (l .state) (l .index) (l .bytes)
+    (λ j. f .before .before .before .before .shared-slice-known .given j .fits) (f .before .before .before .before .before .pre .0) (l .inv) (below t) _ _
+    (c .before .before .before .before .before .before .before .before .shared .ensures (l .number) (found t)) refl in
     omega (arith, c .times-in .ensures (l .number) (found t), e, n .0, n .1)
 
 last-time-requires : tie.Need-last-time-requires Inv-loop μ-loop
-last-time-requires c κs = let t = c .before .before .before .before .before .before .before .before .before in let f = t .before .before .before in (f .before .before .before .before .before .pre .0, (t .before .loop .number, found t))
+last-time-requires c κs =
+    let t = c .before .before .before .before .before .before .before .before .before in let f = t .before .before .before in
+    (f .before .before .before .before .before .pre .0, (t .before .loop .number, found t))
 
 next-block-requires : tie.Need-next-block-requires Inv-loop μ-loop
-next-block-requires c κs = let t = c .before .before .before .before .before .before .before .before .before .before in let f = t .before .before .before in (f .before .before .before .before .before .pre .0, (t .before .loop .number, found t))
+next-block-requires c κs =
+    let t = c .before .before .before .before .before .before .before .before .before .before in let f = t .before .before .before in
+    (f .before .before .before .before .before .pre .0, (t .before .loop .number, found t))
 
 add-number : tie.Need-add-number Inv-loop μ-loop
 add-number c = omega (arith, c .before .before .before .before .before .before .before .before .before .before .before .loop-test .taken)
@@ -114,21 +126,25 @@ loop-again c =
     let s = c .before .before .before .before .before .before .before .before .before .before .shared in
     let e = c .before .before .before .before .before .before .before .load-block .ensures in
     passing-on (a .image .now) (a .signal) (classNumber (a .class)) (a .write) (a .index .now) (a .bytes .now) (l .number) (l .at) (l .times) (l .later) (l .end) (l .state) (l .index) (l .bytes)
-    (λ j. f .before .before .before .before .shared-slice-known .given j .fits) (f .before .before .before .before .before .pre .0) (l .inv) (below t) (s .result) (l .times - s .result) (s .ensures (l .number) h) refl
-    _ _ _ (c .before .before .before .before .before .before .before .load-block .result) _ _ (ap (λ (n : ℕ). l .times - s .result + n) (c .before .before .times-in .ensures (l .number) h)) (c .next-block .ensures (l .number) h)
-    (c .before .last-time .ensures (l .number) h) (e .0) (e .1 (l .number) h .0) (e .1 (l .number) h .1)
+    (λ j. f .before .before .before .before .shared-slice-known .given j .fits) (f .before .before .before .before .before .pre .0) (l .inv) (below t) (s .result)
+    (l .times - s .result) (s .ensures (l .number) h) refl
+    _ _ _ (c .before .before .before .before .before .before .before .load-block .result) _ _
+    (ap (λ (n : ℕ). l .times - s .result + n) (c .before .before .times-in .ensures (l .number) h)) (c .next-block .ensures (l .number) h)
+    (c .before .last-time .ensures (l .number) h) (e .0) (e .1 (l .number) h .0) (e .1 (l .number) h .1) (e .1 (l .number) h .2)
 
 same-length : tie.Need-same-length Inv-loop μ-loop
 same-length c =
     let l = c .before .loop in
     let a = c .before .before .before .before .before .before .before .before .args in
-    passing-sizes (a .image .now) (a .signal) (classNumber (a .class)) (a .write) (a .index .now) (a .bytes .now) (l .number) (l .at) (l .times) (l .later) (l .end) (l .state) (l .index) (l .bytes) (l .inv) .0
+    passing-sizes (a .image .now) (a .signal) (classNumber (a .class)) (a .write) (a .index .now) (a .bytes .now) (l .number) (l .at) (l .times) (l .later) (l .end) (l .state)
+    (l .index) (l .bytes) (l .inv) .0
 
 same-length-2 : tie.Need-same-length-2 Inv-loop μ-loop
 same-length-2 c =
     let l = c .before .loop in
     let a = c .before .before .before .before .before .before .before .before .args in
-    passing-sizes (a .image .now) (a .signal) (classNumber (a .class)) (a .write) (a .index .now) (a .bytes .now) (l .number) (l .at) (l .times) (l .later) (l .end) (l .state) (l .index) (l .bytes) (l .inv) .1
+    passing-sizes (a .image .now) (a .signal) (classNumber (a .class)) (a .write) (a .index .now) (a .bytes .now) (l .number) (l .at) (l .times) (l .later) (l .end) (l .state)
+    (l .index) (l .bytes) (l .inv) .1
 
 returns : tie.Need-returns Inv-loop μ-loop
 returns c =
@@ -136,8 +152,8 @@ returns c =
     let f = c .before .before .before in
     let a = f .before .before .before .before .before .args in
     let q = f .before .block-count .ensures in
-    passed (a .image .now) (a .signal) (classNumber (a .class)) (a .write) (a .index .now) (a .bytes .now) (l .number) (l .at) (l .times) (l .later) (l .end) (l .state) (l .index) (l .bytes)
-    (λ j. f .before .before .before .before .shared-slice-known .given j .fits) (f .before .before .before .before .before .pre .0) (l .inv) (omega arith)
+    passed (a .image .now) (a .signal) (classNumber (a .class)) (a .write) (a .index .now) (a .bytes .now) (l .number) (l .at) (l .times) (l .later) (l .end) (l .state) (l .index)
+    (l .bytes) (l .inv) (omega arith)
 
 pub load-blocks-spec : {M : Type 1} → statement M
 load-blocks-spec =

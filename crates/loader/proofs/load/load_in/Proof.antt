@@ -8,7 +8,7 @@ use Rattle.value.specs.Class.{classNumber}
 use Rattle.value.proofs.ClassLaws.{number-states}
 use Rattle.loaded.specs.Loading.{loads}
 use Rattle.walk.specs.Walk.{imageIn}
-use Rattle.loader.proofs.LeastLaws.{least-any}
+use Rattle.loader_measure.proofs.LeastLaws.{least-any}
 use Rattle.loader.proofs.LoadLaws.{Sized, sized, answer-unknown, answer-short, room-all, answer-loaded}
 use borrow.Author.Needs.{needs}
 use Rattle.loader.proofs.load.load_in.Statement.{statement}
@@ -16,9 +16,13 @@ use Rattle.loader.proofs.load.load_in.Tie as tie
 
 -- what holds of the signal's entries
 fits : (t : tie.After-least-len) → let a = t .before .before .before .before .before .before .before .before .before .args in Sized (a .image .now) (a .signal)
-fits t = let s = t .before .before .before .before .before .before .before .before in sized (s .before .args .image .now) (s .before .args .signal) (λ j. s .shared-slice-known .given j .fits) (s .before .pre)
+fits t =
+    let s = t .before .before .before .before .before .before .before .before in
+    sized (s .before .args .image .now) (s .before .args .signal) (λ j. s .shared-slice-known .given j .fits) (s .before .pre)
 
-class-is : (t : tie.After-least-len) → let a = t .before .before .before .before .before .before .before .before .before .args in classNumber (t .before .from-number .result) ≡ loads (a .signal) (imageIn (a .image .now) .blocks) .class
+class-is : (t : tie.After-least-len) → let a =
+    t .before .before .before .before .before .before .before .before .before .args in
+    classNumber (t .before .from-number .result) ≡ loads (a .signal) (imageIn (a .image .now) .blocks) .class
 class-is t =
     let e = t .before .before .measure-blocks .ensures .1 in
     ap classNumber (t .before .from-number .ensures) ∙ number-states _ (omega (arith, fits t .top)) ∙ e
@@ -37,7 +41,8 @@ is-absent-requires c κs = search needs
 returns : tie.Need-returns
 returns c =
     let a = c .before .before .before .before .before .before .args in
-    answer-unknown (imageIn (a .image .now)) (a .signal) (c .before .before .kind-at .result) (a .index .now) (a .bytes .now) (c .before .before .kind-at .ensures) _ (c .before .is-absent .ensures) (c .if1 .taken)
+    answer-unknown (imageIn (a .image .now)) (a .signal) (c .before .before .kind-at .result) (a .index .now) (a .bytes .now) (c .before .before .kind-at .ensures) _
+    (c .before .is-absent .ensures) (c .if1 .taken)
 
 measure-blocks-requires : tie.Need-measure-blocks-requires
 measure-blocks-requires c κs = search needs
@@ -54,8 +59,10 @@ div-most c = let t = c .before in omega (arith, least-any (t .before .before .be
 lacks-room-requires : tie.Need-lacks-room-requires
 lacks-room-requires c κs =
     let t = c .before .before .before in
-    let m = t .before .before .measure-blocks in
-    ((t .before .before .before .before .before .before .before .before .before .pre, t .before .before .before .before .before .kind-at .ensures, class-is t), (few t, omega (arith, div-le-self (m .result .bytes) (t .least-len .result), m .ensures .2)))
+    let m = t .before .before .measure-blocks in (
+      (t .before .before .before .before .before .before .before .before .before .pre, t .before .before .before .before .before .kind-at .ensures, class-is t),
+      (few t, omega (arith, div-le-self (m .result .bytes) (t .least-len .result), m .ensures .2)),
+    )
 
 same-length : tie.Need-same-length
 same-length c = search needs
@@ -68,8 +75,10 @@ returns-2 c =
     let r = c .before .before .before .before .before in
     let t = r .before .before .before .before in
     let a = t .before .before .before .before .before .before .before .before .before .args in
-    answer-short (a .image .now) (a .signal) (t .before .before .before .before .before .kind-at .result) (a .index .now) (a .bytes .now) (classNumber (t .before .from-number .result)) (r .lacks-room .last .1 .1 .1 .1 .1 .0) (r .lacks-room .last .1 .1 .1 .1 .1 .1 .0)
-    (t .before .before .before .before .before .kind-at .ensures) (fits t) (class-is t) (r .lacks-room .ensures .1) (r .lacks-room .ensures .2) _ (t .before .before .before .before .is-absent .ensures) (t .before .before .before .if1 .left) _ (r .lacks-room .ensures .0) (c .if2 .taken)
+    answer-short (a .image .now) (a .signal) (t .before .before .before .before .before .kind-at .result) (a .index .now) (a .bytes .now)
+    (classNumber (t .before .from-number .result)) (r .lacks-room .last .1 .1 .1 .1 .1 .0) (r .lacks-room .last .1 .1 .1 .1 .1 .1 .0)
+    (t .before .before .before .before .before .kind-at .ensures) (fits t) (class-is t) (r .lacks-room .ensures .1) (r .lacks-room .ensures .2) _
+    (t .before .before .before .before .is-absent .ensures) (t .before .before .before .if1 .left) _ (r .lacks-room .ensures .0) (c .if2 .taken)
 
 load-blocks-requires : tie.Need-load-blocks-requires
 load-blocks-requires c κs =
@@ -78,8 +87,10 @@ load-blocks-requires c κs =
     let a = t .before .before .before .before .before .before .before .before .before .args in (
       t .before .before .before .before .before .before .before .before .before .pre,
       omega (arith, class-is t),
-      room-all (a .image .now) (a .signal) (t .before .before .before .before .before .kind-at .result) (a .index .now) (a .bytes .now) (classNumber (t .before .from-number .result)) (r .lacks-room .last .1 .1 .1 .1 .1 .0) (r .lacks-room .last .1 .1 .1 .1 .1 .1 .0)
-          (t .before .before .before .before .before .kind-at .ensures) (fits t) (class-is t) (r .lacks-room .ensures .1) (r .lacks-room .ensures .2) _ (t .before .before .before .before .is-absent .ensures) (t .before .before .before .if1 .left) _ (r .lacks-room .ensures .0) (c .before .before .if2 .left),
+      room-all (a .image .now) (a .signal) (t .before .before .before .before .before .kind-at .result) (a .index .now) (a .bytes .now)
+          (classNumber (t .before .from-number .result)) (r .lacks-room .last .1 .1 .1 .1 .1 .0) (r .lacks-room .last .1 .1 .1 .1 .1 .1 .0)
+          (t .before .before .before .before .before .kind-at .ensures) (fits t) (class-is t) (r .lacks-room .ensures .1) (r .lacks-room .ensures .2) _
+          (t .before .before .before .before .is-absent .ensures) (t .before .before .before .if1 .left) _ (r .lacks-room .ensures .0) (c .before .before .if2 .left),
     )
 
 signal-class-requires : tie.Need-signal-class-requires
@@ -97,8 +108,11 @@ returns-3 c =
     let r = w .before .before .before .before .before .before .before .before in
     let t = r .before .before .before .before in
     let a = t .before .before .before .before .before .before .before .before .before .args in
-    answer-loaded (a .image .now) (a .signal) (t .before .before .before .before .before .kind-at .result) (a .index .now) (a .bytes .now) (classNumber (t .before .from-number .result)) (r .lacks-room .last .1 .1 .1 .1 .1 .0) (r .lacks-room .last .1 .1 .1 .1 .1 .1 .0)
-    (t .before .before .before .before .before .kind-at .ensures) (fits t) (class-is t) (r .lacks-room .ensures .1) (r .lacks-room .ensures .2) _ (t .before .before .before .before .is-absent .ensures) (t .before .before .before .if1 .left) _ (r .lacks-room .ensures .0) (w .load-blocks .result) (classNumber (c .signal-class .result)) _ _ (w .before .before .before .if2 .left) (c .signal-class .ensures) (w .load-blocks .ensures .1)
+    answer-loaded (a .image .now) (a .signal) (t .before .before .before .before .before .kind-at .result) (a .index .now) (a .bytes .now)
+    (classNumber (t .before .from-number .result)) (r .lacks-room .last .1 .1 .1 .1 .1 .0) (r .lacks-room .last .1 .1 .1 .1 .1 .1 .0)
+    (t .before .before .before .before .before .kind-at .ensures) (fits t) (class-is t) (r .lacks-room .ensures .1) (r .lacks-room .ensures .2) _
+    (t .before .before .before .before .is-absent .ensures) (t .before .before .before .if1 .left) _ (r .lacks-room .ensures .0) (w .load-blocks .result)
+    (classNumber (c .signal-class .result)) _ _ (w .before .before .before .if2 .left) (c .signal-class .ensures) (w .load-blocks .ensures)
 
 pub load-in-spec : {M : Type 1} → statement M
 load-in-spec =

@@ -28,7 +28,12 @@ sub-v : tie.Need-sub-v Inv-loop μ-loop
 sub-v c = omega arith
 
 loop-holds : tie.Need-loop-holds Inv-loop μ-loop
-loop-holds c = (omega arith, refl, omega arith, above-under (c .before .args .first) (readLeb 4 (c .before .args .at) (drop (c .before .args .at) (c .before .args .s .now))) (c .before .pre .0) (c .before .pre .1))
+loop-holds c = (
+  omega arith,
+  refl,
+  omega arith,
+  above-under (c .before .args .first) (readLeb 4 (c .before .args .at) (drop (c .before .args .at) (c .before .args .s .now))) (c .before .pre .0) (c .before .pre .1),
+)
 
 returns : tie.Need-returns Inv-loop μ-loop
 returns c =
@@ -81,8 +86,14 @@ loop-again : tie.Need-loop-again Inv-loop μ-loop
 loop-again c =
     let l = c .before .before .before .before .before .loop in
     let e = c .before .wide .ensures in
-    let w = weight-at (l .left) (omega arith) (l .inv .0) in
-    (omega arith, rw (l .inv .1) (w .2), omega (arith, step c .1), l .inv .3 ∙ under-more (l .v) (l .weight) (l .left) (l .i) _ (rw (l .inv .1) (w .0)) (omega arith) (omega arith) (rw (← e) (c .if2 .left)) (c .before .before .shared-slice-known2 .given (l .i) .fits) ∙ rw e refl)
+    let w = weight-at (l .left) (omega arith) (l .inv .0) in (
+      omega arith,
+      rw (l .inv .1) (w .2),
+      omega (arith, step c .1),
+      l .inv .3
+          ∙ under-more (l .v) (l .weight) (l .left) (l .i) _ (rw (l .inv .1) (w .0)) (omega arith) (omega arith) (rw (← e) (c .if2 .left))
+          (c .before .before .shared-slice-known2 .given (l .i) .fits) ∙ rw e refl,
+    )
 
 returns-3 : tie.Need-returns-3 Inv-loop μ-loop
 returns-3 c =

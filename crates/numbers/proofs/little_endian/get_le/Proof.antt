@@ -38,6 +38,11 @@ shared-slice-read-wide c = omega arith
 wide-requires : tie.Need-wide-requires Inv-loop μ-loop
 wide-requires c κs = tt
 
+cast-v : tie.Need-cast-v Inv-loop μ-loop
+cast-v c =
+    let b = c .before .before .before in
+    omega (arith, b .before .shared-slice-known .given (b .before .before .args .at + (b .loop .i - 1)))
+
 add-v : tie.Need-add-v Inv-loop μ-loop
 add-v c =
     let b = c .before .before .before in
@@ -74,6 +79,7 @@ get-le-spec =
     add-wide
     shared-slice-read-wide
     wide-requires
+    cast-v
     add-v
     loop-less
     loop-again

@@ -8,9 +8,11 @@ use Rattle.recording.specs.Memory.{first}
 use Rattle.recording.specs.Refusals.{stateTests}
 use Rattle.refusals.proofs.StateLaws.{sound}
 use Rattle.cut.proofs.CutLaws.{size-room}
-use Rattle.plan.specs.declared.Outcome.{Outcome}
-use Rattle.plan.specs.Plan.{still, cutting, planRefused, closing, finishSized}
-use Rattle.plan.proofs.FinishLaws.{finish-refused, finish-empty, finish-held, sized-refused, sized-cut}
+use Rattle.recording.specs.declared.Outcome.{Outcome}
+use Rattle.plan_state.specs.Outcomes.{still, cutting, closing}
+use Rattle.plan.specs.Plan.{planRefused, finishWithCut, finishSized}
+use Rattle.plan.proofs.FinishLaws.{finish-refused, finish-empty, finish-held}
+use Rattle.plan.proofs.SizedLaws.{sized-refused, sized-cut}
 use borrow.Author.Needs.{needs}
 use Rattle.plan.proofs.finish.plan_finish.Statement.{statement}
 use Rattle.plan.proofs.finish.plan_finish.Tie as tie
@@ -65,9 +67,10 @@ returns-3 c =
     let z = c .before .before .before .before .cut-size in
     c .plan-still3 .ensures
     ∙ ap (λ (o : Outcome). still o (a .state)) (c .before .refused2 .ensures)
-    ∙ sym (finish-held (a .state) (a .lent .records) (a .lent .times) (a .work .now) (a .lent .image) (none (c .before .before .before .before .before .before .before)) (c .before .before .before .before .before .if2 .left)
+    ∙ sym (finish-held (a .state) (a .lent .records) (a .lent .times) (a .work .now) (a .lent .image) (none (c .before .before .before .before .before .before .before))
+    (c .before .before .before .before .before .if2 .left)
     ∙ ap (finishSized (a .state) (a .lent .records)) (sym (z .ensures))
-    ∙ sized-refused (a .state) (a .lent .records) (z .result) (c .before .before .if3 .taken))
+    ∙ sized-refused (a .state) (z .result) (finishWithCut (a .state) (a .lent .records)) (c .before .before .if3 .taken))
 
 cut-state-requires : tie.Need-cut-state-requires
 cut-state-requires c κs =
@@ -90,9 +93,10 @@ returns-4 c =
     let o = c .before .closed2 .ensures ∙ ap closing (c .before .before .cut-state .ensures) in
     c .plan-cut .ensures
     ∙ ap (λ (o : Outcome). cutting o (a .state) (z .result .size) (a .lent .records)) o
-    ∙ sym (finish-held (a .state) (a .lent .records) (a .lent .times) (a .work .now) (a .lent .image) (none (c .before .before .before .before .before .before .before .before)) (c .before .before .before .before .before .before .if2 .left)
+    ∙ sym (finish-held (a .state) (a .lent .records) (a .lent .times) (a .work .now) (a .lent .image) (none (c .before .before .before .before .before .before .before .before))
+    (c .before .before .before .before .before .before .if2 .left)
     ∙ ap (finishSized (a .state) (a .lent .records)) (sym (z .ensures))
-    ∙ sized-cut (a .state) (a .lent .records) (z .result) (c .before .before .before .if3 .left))
+    ∙ sized-cut (a .state) (z .result) (finishWithCut (a .state) (a .lent .records)) (c .before .before .before .if3 .left))
 
 pub plan-finish-spec : {M : Type 1} → statement M
 plan-finish-spec =

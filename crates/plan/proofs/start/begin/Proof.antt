@@ -6,8 +6,8 @@ use native.Mathlib.Omega.{arith}
 use lib.ListN.{length}
 use Rattle.recording.specs.declared.Answer.the-variants.{Refused}
 use Rattle.recording.proofs.StartCases.{Startable}
-use Rattle.plan.specs.declared.Outcome.{Outcome}
-use Rattle.plan.specs.Plan.{outcome}
+use Rattle.recording.specs.declared.Outcome.{Outcome}
+use Rattle.plan_state.specs.Outcomes.{outcome}
 use Rattle.plan.specs.Begin.{begun}
 use Rattle.plan.proofs.BeginLaws.{startable, begin-refused, begin-taken}
 use borrow.Author.Needs.{needs}

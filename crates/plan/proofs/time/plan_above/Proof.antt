@@ -7,10 +7,13 @@ use Rattle.recording.specs.declared.Answer.the-variants.{Taken}
 use Rattle.recording.specs.declared.Encoder.{Encoder}
 use Rattle.refusals.proofs.StateLaws.{sound}
 use Rattle.cut.proofs.CutLaws.{size-room}
-use Rattle.plan.specs.declared.Outcome.{Outcome}
-use Rattle.plan.specs.declared.Plan.{Plan}
-use Rattle.plan.specs.Plan.{outcome, still, cutting, taking, takenState, timeSized}
-use Rattle.plan.proofs.TimeLaws.{above-taken, above-cut, sized-refused, sized-cut}
+use Rattle.recording.specs.declared.Outcome.{Outcome}
+use Rattle.recording.specs.Step.{timedState}
+use Rattle.plan_state.specs.declared.plan.Plan.{Plan}
+use Rattle.plan_state.specs.Outcomes.{outcome, still, cutting, taking}
+use Rattle.plan.specs.Plan.{timeWithCut, timeSized}
+use Rattle.plan.proofs.TimeLaws.{above-taken, above-cut}
+use Rattle.plan.proofs.SizedLaws.{sized-refused, sized-cut}
 use borrow.Author.Needs.{needs}
 use Rattle.plan.proofs.time.plan_above.Statement.{statement}
 use Rattle.plan.proofs.time.plan_above.Tie as tie
@@ -50,7 +53,7 @@ returns-2 c =
     ∙ ap (λ (o : Outcome). still o (a .state)) (c .before .refused .ensures)
     ∙ sym (above-cut (a .state) (a .lent .records) (a .work .now) (a .lent .image) (a .time) (sound _ _ _ _ _ (p .pre) .held) (c .before .before .before .before .before .if1 .left)
     ∙ ap (timeSized (a .state) (a .lent .records) (a .time)) (sym (z .ensures))
-    ∙ sized-refused (a .state) (a .lent .records) (a .time) (z .result) (c .before .before .if2 .taken))
+    ∙ sized-refused (a .state) (z .result) (timeWithCut (a .state) (a .lent .records) (a .time)) (c .before .before .if2 .taken))
 
 cut-state-requires : tie.Need-cut-state-requires
 cut-state-requires c κs =
@@ -75,12 +78,12 @@ returns-3 c =
     let p = c .before .before .before .before .before .before .before .before .before .before in
     let a = p .args in
     let z = c .before .before .before .before .before .before .cut-size in
-    let o = c .before .before .taken2 .ensures ∙ ap (λ (s : Encoder). outcome Taken (takenState s)) (c .before .before .before .cut-state .ensures) in
+    let o = c .before .before .taken2 .ensures ∙ ap (λ (s : Encoder). outcome Taken (timedState s)) (c .before .before .before .cut-state .ensures) in
     c .plan-taken2 .ensures
     ∙ ap (λ (q : Plan). taking q (a .time)) (c .before .plan-cut .ensures ∙ ap (λ (o : Outcome). cutting o (a .state) (z .result .size) (a .lent .records)) o)
     ∙ sym (above-cut (a .state) (a .lent .records) (a .work .now) (a .lent .image) (a .time) (sound _ _ _ _ _ (p .pre) .held) (c .before .before .before .before .before .before .before .if1 .left)
     ∙ ap (timeSized (a .state) (a .lent .records) (a .time)) (sym (z .ensures))
-    ∙ sized-cut (a .state) (a .lent .records) (a .time) (z .result) (c .before .before .before .before .if2 .left))
+    ∙ sized-cut (a .state) (z .result) (timeWithCut (a .state) (a .lent .records) (a .time)) (c .before .before .before .before .if2 .left))
 
 pub plan-above-spec : {M : Type 1} → statement M
 plan-above-spec =

@@ -6,16 +6,18 @@ use lib.ListN.{length}
 use Rattle.recording.specs.Memory.{first}
 use Rattle.recording.specs.Refusals.{stateTests}
 use Rattle.refusals.proofs.StateLaws.{sound}
-use Rattle.plan.specs.declared.Outcome.{Outcome}
-use Rattle.plan.specs.Plan.{still, planRefused, planBy}
-use Rattle.plan.specs.Way.{wayIn}
+use Rattle.recording.specs.declared.Outcome.{Outcome}
+use Rattle.plan_state.specs.Outcomes.{still}
+use Rattle.plan.specs.Plan.{planRefused, planBy}
+use Rattle.plan_state.specs.Way.{wayIn}
 use Rattle.plan.proofs.TimeLaws.{time-refused, time-passed}
 use borrow.Author.Needs.{needs}
 use Rattle.plan.proofs.time.plan_time.Statement.{statement}
 use Rattle.plan.proofs.time.plan_time.Tie as tie
 
 -- the refusal's number, and that no test refuses the time
-refusal-is : (c : tie.After-state-refusal) → let a = c .before .before .before .args in c .state-refusal .result ≡ first (stateTests (a .state) (a .lent .records) (length (a .times .now)) (length (a .work .now)) (a .lent .image))
+refusal-is : (c : tie.After-state-refusal) → let a =
+    c .before .before .before .args in c .state-refusal .result ≡ first (stateTests (a .state) (a .lent .records) (length (a .times .now)) (length (a .work .now)) (a .lent .image))
 refusal-is c = rw (c .before .before .before .pre) at (c .state-refusal .ensures)
 
 none : (c : tie.Else1) → let a = c .before .before .before .before .args in first (stateTests (a .state) (a .lent .records) (length (a .times .now)) (length (a .work .now)) (a .lent .image)) ≡ 0
@@ -71,21 +73,24 @@ returns-2 c =
     let a = c .before .before .before .before .before .before .before .before .args in
     let y = sym (ap wayIn (c .before .enum-told .given .1)) ∙ c .before .before .before .way-of .ensures in
     c .plan-above .ensures
-    ∙ sym (time-passed (a .state) (a .lent .records) (a .times .now) (a .work .now) (a .lent .image) (a .time) (none (c .before .before .before .before)) ∙ ap (planBy (a .state) (a .lent .records) (a .work .now) (a .lent .image) (a .time)) (sym y))
+    ∙ sym (time-passed (a .state) (a .lent .records) (a .times .now) (a .work .now) (a .lent .image) (a .time) (none (c .before .before .before .before))
+    ∙ ap (planBy (a .state) (a .lent .records) (a .work .now) (a .lent .image) (a .time)) (sym y))
 
 returns-3 : tie.Need-returns-3
 returns-3 c =
     let a = c .before .before .before .before .before .before .before .before .before .args in
     let y = sym (ap wayIn (c .before .before .enum-told2 .given .1)) ∙ c .before .before .before .before .way-of .ensures in
     c .plan-still2 .ensures ∙ ap (λ (o : Outcome). still o (a .state)) (c .before .same .ensures)
-    ∙ sym (time-passed (a .state) (a .lent .records) (a .times .now) (a .work .now) (a .lent .image) (a .time) (none (c .before .before .before .before .before)) ∙ ap (planBy (a .state) (a .lent .records) (a .work .now) (a .lent .image) (a .time)) (sym y))
+    ∙ sym (time-passed (a .state) (a .lent .records) (a .times .now) (a .work .now) (a .lent .image) (a .time) (none (c .before .before .before .before .before))
+    ∙ ap (planBy (a .state) (a .lent .records) (a .work .now) (a .lent .image) (a .time)) (sym y))
 
 returns-4 : tie.Need-returns-4
 returns-4 c =
     let a = c .before .before .before .before .before .before .before .before .before .args in
     let y = sym (ap wayIn (c .before .before .enum-told3 .given .1)) ∙ c .before .before .before .before .way-of .ensures in
     c .plan-still3 .ensures ∙ ap (λ (o : Outcome). still o (a .state)) (c .before .back .ensures)
-    ∙ sym (time-passed (a .state) (a .lent .records) (a .times .now) (a .work .now) (a .lent .image) (a .time) (none (c .before .before .before .before .before)) ∙ ap (planBy (a .state) (a .lent .records) (a .work .now) (a .lent .image) (a .time)) (sym y))
+    ∙ sym (time-passed (a .state) (a .lent .records) (a .times .now) (a .work .now) (a .lent .image) (a .time) (none (c .before .before .before .before .before))
+    ∙ ap (planBy (a .state) (a .lent .records) (a .work .now) (a .lent .image) (a .time)) (sym y))
 
 pub plan-time-spec : {M : Type 1} → statement M
 plan-time-spec =

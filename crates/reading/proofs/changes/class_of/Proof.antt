@@ -30,7 +30,9 @@ returns : tie.Need-returns
 returns c = search needs
 
 returns-2 : tie.Need-returns-2
-returns-2 c = rw (c .before .before .before .value .given .1) (c .number .ensures ∙ ap classNumber (c .before .from-bit .ensures) ∙ number-states _ (class-small (c .before .before .before .value .given .0 .0 .0)))
+returns-2 c =
+    rw (c .before .before .before .value .given .1)
+    (c .number .ensures ∙ ap classNumber (c .before .from-bit .ensures) ∙ number-states _ (class-small (c .before .before .before .value .given .0 .0 .0)))
 
 returns-3 : tie.Need-returns-3
 returns-3 c = search needs

@@ -24,16 +24,27 @@ enum-known-index : tie.Need-enum-known-index Inv-loop μ-loop
 enum-known-index c = search needs
 
 loop-less : tie.Need-loop-less Inv-loop μ-loop
-loop-less c = let y = c .before .before .before .before .before .before .shared-slice-known .given in let t = c .before .before .before .before .loop-test .taken in let d = stream-turn _ _ _ _ _ _ (λ j. y j .fits) t _ _ _ (c .before .before .before .change-at .ensures) (c .before .index .given .1) in let p = d .past in let q = d .inside in omega arith
+loop-less c =
+    let y = c .before .before .before .before .before .before .shared-slice-known .given in let t = c .before .before .before .before .loop-test .taken in
+    let d = stream-turn _ _ _ _ _ _ (λ j. y j .fits) t _ _ _ (c .before .before .before .change-at .ensures) (c .before .index .given .1) in let p = d .past in
+    let q = d .inside in omega arith
 
 loop-again : tie.Need-loop-again Inv-loop μ-loop
-loop-again c = let y = c .before .before .before .before .before .before .shared-slice-known .given in let t = c .before .before .before .before .loop-test .taken in let l = c .before .before .before .before .before .loop in let d = stream-turn _ _ _ _ _ _ (λ j. y j .fits) t _ _ _ (c .before .before .before .change-at .ensures) (c .before .index .given .1) in let p = d .small in (d .inside, omega arith, sym (d .rest) ∙ l .inv .2)
+loop-again c =
+    let y = c .before .before .before .before .before .before .shared-slice-known .given in let t = c .before .before .before .before .loop-test .taken in
+    let l = c .before .before .before .before .before .loop in
+    let d = stream-turn _ _ _ _ _ _ (λ j. y j .fits) t _ _ _ (c .before .before .before .change-at .ensures) (c .before .index .given .1) in let p = d .small in
+    (d .inside, omega arith, sym (d .rest) ∙ l .inv .2)
 
 enum-told : tie.Need-enum-told Inv-loop μ-loop
 enum-told c = search needs
 
 returns : tie.Need-returns Inv-loop μ-loop
-returns c = let y = c .before .before .before .before .before .shared-slice-known .given in let t = c .before .before .before .loop-test .taken in let l = c .before .before .before .before .loop in stream-wrong _ _ _ _ _ _ (λ j. y j .fits) t _ (c .before .before .change-at .ensures) (c .enum-told .given .1) ∙ l .inv .2 ∙ sym (stream-any _ _ _ _ (λ j. y j .fits) (omega arith))
+returns c =
+    let y = c .before .before .before .before .before .shared-slice-known .given in let t = c .before .before .before .loop-test .taken in
+    let l = c .before .before .before .before .loop in
+    stream-wrong _ _ _ _ _ _ (λ j. y j .fits) t _ (c .before .before .change-at .ensures) (c .enum-told .given .1) ∙ l .inv .2
+    ∙ sym (stream-any _ _ _ _ (λ j. y j .fits) (omega arith))
 
 returns-2 : tie.Need-returns-2 Inv-loop μ-loop
 returns-2 c = stream-end _ _ _ _ _ _ (λ j. c .before .before .shared-slice-known .given j .fits) (c .loop-test .left) (c .before .loop .inv .2)

@@ -37,8 +37,10 @@ put-raw-change-requires c κs =
     let a = p .before .before .before .before .before .before .args in
     let says : Says (a .kind) (raw (a .claim) (a .value .now)) (p .change .given .0 .0) = (p .change .given .0 .1 .0, sym (p .before .before .decode-raw .ensures) ∙ p .change .given .1) in
     let w = c .before .before .before .before .width in
-    let l = c .before .before .before .change-len in
-    ((omega arith, says), room (a .kind) (a .d) (raw (a .claim) (a .value .now)) (p .change .given .0 .0) (w .result) (l .result) (length (a .out .now)) tt says (w .ensures) (l .ensures) (omega arith))
+    let l = c .before .before .before .change-len in (
+      (omega arith, says),
+      room (a .kind) (a .d) (raw (a .claim) (a .value .now)) (p .change .given .0 .0) (w .result) (l .result) (length (a .out .now)) tt says (w .ensures) (l .ensures) (omega arith),
+    )
 
 enum-told : tie.Need-enum-told
 enum-told c = search needs

@@ -34,7 +34,8 @@ put-real-change-requires c κs =
     let p = c .before .before .before .before .before in
     let a = p .before .before .before .before .before .args in
     let says : Says Real (real (a .bits)) (p .change .given .0 .0) = (p .change .given .0 .1 .0, sym (p .before .before .decode-real .ensures) ∙ p .change .given .1) in
-    real-room (a .d) (a .bits) (p .change .given .0 .0) (c .before .before .before .change-len .result) (length (a .out .now)) (omega arith) says (c .before .before .before .change-len .ensures) (omega arith)
+    real-room (a .d) (a .bits) (p .change .given .0 .0) (c .before .before .before .change-len .result) (length (a .out .now)) (omega arith) says
+    (c .before .before .before .change-len .ensures) (omega arith)
 
 enum-told : tie.Need-enum-told
 enum-told c = search needs

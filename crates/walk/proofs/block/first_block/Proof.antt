@@ -10,18 +10,15 @@ use Rattle.walk.proofs.block.first_block.Tie as tie
 signal-count-requires : tie.Need-signal-count-requires
 signal-count-requires c κs = search needs
 
-cast-result : tie.Need-cast-result
-cast-result c = search needs
+cast-head-size : tie.Need-cast-head-size
+cast-head-size c = search needs
 
-mul-result : tie.Need-mul-result
-mul-result c = search needs
-
-add-result : tie.Need-add-result
-add-result c = search needs
+head-size-requires : tie.Need-head-size-requires
+head-size-requires c κs = search needs
 
 returns : tie.Need-returns
-returns c = omega (arith, c .signal-count .ensures, first-place (imageIn (c .before .before .args .image .now)))
+returns c = omega (arith, c .head-size .ensures, c .before .signal-count .ensures, first-place (imageIn (c .before .before .before .args .image .now)))
 
 pub first-block-spec : {M : Type 1} → statement M
 first-block-spec =
-    tie.close (tie.spec signal-count-requires cast-result mul-result add-result returns)
+    tie.close (tie.spec signal-count-requires cast-head-size head-size-requires returns)

@@ -18,32 +18,30 @@ signal-count-requires c κs = search needs
 cast-signals : tie.Need-cast-signals
 cast-signals c = search needs
 
-found : (c : tie.After-signal-count) (n : ℕ) → BlockHere n (c .before .before .args .at) (c .before .before .args .image .now)
-    → Number (c .before .before .args .image .now) (c .before .before .args .at + 12 + 4 * c .signal-count .result + 8 * c .before .before .args .i) 8
-    (getD (blockAt (imageIn (c .before .before .args .image .now)) n .times) (c .before .before .args .i) 0)
+times-place-requires : tie.Need-times-place-requires
+times-place-requires c κs = search needs
+
+found : (c : tie.After-times-place) (n : ℕ) → BlockHere n (c .before .before .before .args .at) (c .before .before .before .args .image .now)
+    → Number (c .before .before .before .args .image .now) (c .before .before .before .args .at + c .times-place .result + 8 * c .before .before .before .args .i) 8
+    (getD (blockAt (imageIn (c .before .before .before .args .image .now)) n .times) (c .before .before .before .args .i) 0)
 found c n h =
-    let s = c .before .before in
+    let s = c .before .before .before in
     let p = s .pre .1 in
-    time-read (p .0) n (s .args .at) (s .args .i) (c .signal-count .result) (s .args .image .now) (λ j. c .before .shared-slice-known .given j .fits) (s .pre .0) (p .1) (p .2) h
-    (c .signal-count .ensures)
+    rw (c .times-place .ensures)
+    (time-read (p .0) n (s .args .at) (s .args .i) (c .before .signal-count .result) (s .args .image .now) (λ j. c .before .before .shared-slice-known .given j .fits) (s .pre .0) (p .1) (p .2) h
+    (c .before .signal-count .ensures))
 
 add-get-u64 : tie.Need-add-get-u64
-add-get-u64 c = let p = c .before .before .pre .1 in omega (arith, found c (p .0) (p .1) .inside)
+add-get-u64 c = let p = c .before .before .before .pre .1 in omega (arith, found c (p .0) (p .1) .inside)
 
 mul-get-u64 : tie.Need-mul-get-u64
 mul-get-u64 c = search needs
 
 add-get-u64-2 : tie.Need-add-get-u64-2
-add-get-u64-2 c = let p = c .before .before .pre .1 in omega (arith, found c (p .0) (p .1) .inside)
-
-mul-get-u64-2 : tie.Need-mul-get-u64-2
-mul-get-u64-2 c = search needs
-
-add-get-u64-3 : tie.Need-add-get-u64-3
-add-get-u64-3 c = let p = c .before .before .pre .1 in omega (arith, found c (p .0) (p .1) .inside)
+add-get-u64-2 c = let p = c .before .before .before .pre .1 in omega (arith, found c (p .0) (p .1) .inside)
 
 get-u64-requires : tie.Need-get-u64-requires
-get-u64-requires c κs = let p = c .before .before .pre .1 in found c (p .0) (p .1) .inside
+get-u64-requires c κs = let p = c .before .before .before .pre .1 in found c (p .0) (p .1) .inside
 
 returns : tie.Need-returns
 returns c n h = c .get-u64 .ensures ∙ found (c .before) n h .value
@@ -54,10 +52,9 @@ time-at-spec =
     (tie.spec
     signal-count-requires
     cast-signals
+    times-place-requires
     add-get-u64
     mul-get-u64
     add-get-u64-2
-    mul-get-u64-2
-    add-get-u64-3
     get-u64-requires
     returns)

@@ -25,22 +25,20 @@ returns c =
     let a = c .before .before .before .args in
     kind-past (imageIn (a .image .now)) (a .signal) (omega (arith, c .if1 .taken, c .before .signal-count .ensures))
 
-mul-get-u32 : tie.Need-mul-get-u32
-mul-get-u32 c = search needs
-
-add-get-u32 : tie.Need-add-get-u32
-add-get-u32 c = search needs
+kind-place-requires : tie.Need-kind-place-requires
+kind-place-requires c κs = search needs
 
 get-u32-requires : tie.Need-get-u32-requires
-get-u32-requires c κs = kind-number-at _ _ _ (meant c) (below c) .inside
+get-u32-requires c κs = rw (c .kind-place .ensures) (kind-number-at _ _ _ (meant (c .before)) (below (c .before)) .inside)
 
 kind-from-requires : tie.Need-kind-from-requires
 kind-from-requires c κs = search needs
 
 returns-2 : tie.Need-returns-2
 returns-2 c =
-    let g = c .before .before in
-    c .kind-from .ensures ∙ kind-read _ _ _ (c .before .get-u32 .result) (meant g) (below g) (c .before .get-u32 .ensures)
+    let g = c .before .before .before in
+    c .kind-from .ensures
+    ∙ kind-read _ _ _ (c .before .get-u32 .result) (meant g) (below g) (rw (c .before .before .kind-place .ensures) at (c .before .get-u32 .ensures))
 
 pub kind-at-spec : {M : Type 1} → statement M
 kind-at-spec =
@@ -48,8 +46,7 @@ kind-at-spec =
     (tie.spec
     signal-count-requires
     returns
-    mul-get-u32
-    add-get-u32
+    kind-place-requires
     get-u32-requires
     kind-from-requires
     returns-2)

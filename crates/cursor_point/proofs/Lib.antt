@@ -1,0 +1,4 @@
+pub mod StreamLaws
+pub mod PointLaws
+pub mod LoadLaws
+pub mod BlockLaws

@@ -1,0 +1,72 @@
+-- A change call: what is stored of the signal's record can be stored, and all parts together are `changeOf`.
+-- Assumes nothing.
+use Prim.Native.Nat.{ℕ, _-_, _≤_, max}
+use mathlib.Core.Path.{_≡_, refl, sym, ap, _∙_, subst}
+use mathlib.Core.Bool.{Bool, true, false}
+use mathlib.Core.List.{List, [], _∷_}
+use native.Mathlib.Omega.{arith}
+use lib.ListN.{length, getD, set}
+use Rattle.lists.specs.Choice.{pick}
+use Rattle.value.specs.Class.{classNumber, statesOf}
+use Rattle.value.specs.declared.states.States.the-variants.{Two}
+use Rattle.signal.specs.declared.kind.SignalEncoding.the-variants.{Absent}
+use Rattle.signal.specs.Content.{Given, Decoded, refuse, accept, decode}
+use Rattle.stream.specs.Stream.{changeBytes}
+use Rattle.recording.specs.declared.Encoder.{Encoder}
+use Rattle.recording.specs.declared.SignalRecord.{SignalRecord}
+use Rattle.recording.specs.Calls.{replyOf}
+use Rattle.recording.specs.Memory.{memory, after, recordOf, Tests, guarded}
+use Rattle.recording.specs.Refusals.{roomTests}
+use Rattle.recording.specs.Step.{changeOf}
+use Rattle.storage.specs.Storage.{recordsOf, Storable}
+use Rattle.storage.proofs.StorageLaws.{storable-with, records-length}
+use Rattle.recording.specs.declared.Lengths.{Lengths}
+use Rattle.admission.specs.declared.changed.Changed.{Changed}
+use Rattle.admission.specs.declared.Admission.{Admission}
+use Rattle.admission.specs.declared.Admission.the-variants.{Refused, Skipped, Taken}
+use Rattle.admission.specs.Stages.{admissionOf}
+use Rattle.admission.proofs.StageLaws.{taken-ready}
+use Rattle.change.specs.Found.{Found, found, foundRefused, foundDone, foundBy, foundOf}
+use Rattle.change.proofs.FoundLaws.{byAdmission, found-after}
+use Rattle.change.proofs.ChangeLaws.{change-found}
+use Rattle.recording.specs.declared.Outcome.{Outcome}
+
+module _ (s : Encoder) (r : SignalRecord) (w : List ℕ) (g : ℕ) (fits : Storable r) where
+  picked-fits : (b : Bool) (x y : Found) → Storable (x .kept) → Storable (y .kept) → Storable (pick b x y .kept)
+  picked-fits true x y p q = p
+  picked-fits false x y p q = q
+
+  guarded-fits : (ts : Tests) (e : Found) → Storable (e .kept) → Storable (guarded ts (foundRefused s r w) e .kept)
+  guarded-fits [] e h = h
+  guarded-fits (t ∷ ts) e h = picked-fits (t .0) (foundRefused s r w (t .1)) (guarded ts (foundRefused s r w) e) fits (guarded-fits ts e h)
+
+  by-fits : s .held ≤ 65535 → (d : Decoded) → Storable (foundBy s r w g d .kept)
+  unfolding foundBy
+  by-fits h (refuse n) = fits
+  by-fits h (accept a c) =
+      let b = changeBytes (r .kind) (s .held - 1 - r .index) a in
+      guarded-fits (roomTests s r (length w) (length b)) (foundDone s r w g b c) (storable-with r (s .held - 1) (statesOf (max (classNumber (r .top)) c)) fits (omega arith))
+
+  kept-fits : (records times image : ℕ) (v : Given) → Storable (foundOf s r records times image w g v .kept)
+  kept-fits records times image v = subst (λ (f : Found). Storable (f .kept)) (found-after s r w g v records times image refl refl) (by (admissionOf s records times (length w) image g) refl)
+    where
+      by : (a : Admission) → admissionOf s records times (length w) image g ≡ a → Storable (byAdmission s r w g v a .kept)
+      by (Refused n) e = fits
+      by Skipped e = fits
+      by Taken e = by-fits (taken-ready s records times (length w) image g e .held) (decode (r .kind) v)
+
+-- what the code's change leaves
+module _ (s : Encoder) (k : SignalRecord) (l : Lengths) (w w′ : List ℕ) (g : ℕ) (v : Given) (c : Changed)
+    (made : found (replyOf (c .answer)) (c .state) (c .kept) w′ ≡ foundOf s k (l .records) (l .times) (l .image) w g v) where
+  pub change-fits : Storable k → Storable (c .kept)
+  change-fits h = subst Storable (sym (ap (λ (f : Found). f .kept) made)) (kept-fits s k w g h (l .records) (l .times) (l .image) v)
+
+  -- rs′ are the stored records, o what is answered
+  pub change-made : (rs rs′ t i : List ℕ) (o : Outcome)
+      → (l .records ≡ length rs) × (l .times ≡ length t) × (l .image ≡ length i)
+      → k ≡ getD (recordsOf rs) g (recordOf Absent 0 Two)
+      → (o .answer ≡ c .answer) × (o .state ≡ c .state) × (recordsOf rs′ ≡ set (recordsOf rs) g (c .kept))
+      → after (replyOf (o .answer)) (memory (o .state) (recordsOf rs′) t w′ i) ≡ changeOf (memory s (recordsOf rs) t w i) g v
+  change-made rs rs′ t i o p e q =
+      rw (q .0, q .1, q .2)
+      (sym (change-found (memory s (recordsOf rs) t w i) g v ∙ rw (records-length rs, ← e, ← (p .0), ← (p .1), ← (p .2), ← made) refl))

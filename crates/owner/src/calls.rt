@@ -1,0 +1,79 @@
+// The calls on two records, each by its number in a run.
+use owned::Kept;
+use recording::Encoder;
+use recording::SignalRecord;
+use sheet::run::FINISH;
+use sheet::run::REAL;
+use sheet::run::START;
+use sheet::run::TIME;
+use sheet::run::VCD;
+use sheet::run::low;
+use signal::SignalRef;
+use value::states::States;
+
+// Makes a change. The number is the claim of a raw value, or the bits of a real. Class Two is claimed by the class itself and any other by
+// its number, so that both calls are made.
+fn change(
+    call: u64,
+    signal: SignalRef,
+    number: u64,
+    value: &[u8],
+    state: Encoder,
+    records: [SignalRecord; 2],
+    times: &[u64],
+    work: &mut [u8],
+    image: &[u8],
+) -> Kept {
+    if call == VCD {
+        return owned::vcd_value_change(state, records, times, work, image, signal, value);
+    }
+    if call == REAL {
+        return owned::real_change(state, records, times, work, image, signal, number);
+    }
+    if number == 0 {
+        let claim = States::Two;
+        return owned::raw_class_change(state, records, times, work, image, signal, claim, value);
+    }
+    owned::raw_claim_change(
+        state,
+        records,
+        times,
+        work,
+        image,
+        signal,
+        low(number),
+        value,
+    )
+}
+
+// Makes a call with its two numbers; value is the text of a VCD value, or the bytes of a raw one.
+pub fn perform(
+    call: u64,
+    first: u64,
+    second: u64,
+    value: &[u8],
+    state: Encoder,
+    records: [SignalRecord; 2],
+    times: &mut [u64],
+    work: &mut [u8],
+    image: &mut [u8],
+) -> Kept {
+    match call {
+        START => owned::start(state, low(second), low(first), records, &*times, image),
+        TIME => owned::time_change(state, records, times, &*work, image, first),
+        FINISH => owned::finish(state, records, times, &*work, image),
+        _ => {
+            change(
+                call,
+                SignalRef(low(first)),
+                second,
+                value,
+                state,
+                records,
+                &*times,
+                work,
+                &*image,
+            )
+        }
+    }
+}

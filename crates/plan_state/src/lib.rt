@@ -1,0 +1,83 @@
+// What each call of crate plan answers and makes of the state, decided on values; what a time or a finish comes to (`plan`), and where a time
+// stands (`way`). Document 01, 'Recording'. The contracts cite specs/Outcomes.antt.
+pub mod plan;
+pub mod way;
+
+use recording::Answer;
+use recording::Encoder;
+use recording::Outcome;
+ghost use mathlib.Core.Path.{_≡_};
+ghost use Prim.Native.Nat.{_+_, _≤_, _<_};
+ghost use Rattle.recording.specs.State.{startState};
+ghost use Rattle.recording.specs.Step.{skipping, timedState};
+ghost use Rattle.plan_state.specs.Outcomes.{outcome, closing};
+
+// A refusal by its number: nothing changes.
+pub fn refused(n: u32, state: Encoder) -> Outcome
+    ensures { λ r. ⌜ r ≡ outcome (Answer.Refused n) state ⌝ }
+{
+    Outcome {
+        answer: Answer::Refused(n),
+        state,
+    }
+}
+
+// The state of a recording without times and blocks: of the image its head is used.
+pub fn begun(limit: u32, signals: u32) -> Outcome
+    requires { ⌜ signals ≤ 65536 ⌝ }
+    ensures { λ r. ⌜ r ≡ outcome Answer.Started (startState limit signals) ⌝ }
+{
+    let state = Encoder::started(limit, signals);
+    Outcome {
+        answer: Answer::Started,
+        state,
+    }
+}
+
+// An equal time changes nothing.
+pub fn same(state: Encoder) -> Outcome
+    ensures { λ r. ⌜ r ≡ outcome Answer.Same state ⌝ }
+{
+    let answer = Answer::Same;
+    Outcome { answer, state }
+}
+
+// A smaller time starts a skip.
+pub fn back(state: Encoder) -> Outcome
+    ensures { λ r. ⌜ r ≡ outcome Answer.Back (skipping state) ⌝ }
+{
+    let skips = state.skips;
+    let mut after = state;
+    after.skips = skips.begun();
+    Outcome {
+        answer: Answer::Back,
+        state: after,
+    }
+}
+
+// A taken time joins the table and ends a skip.
+pub fn taken(state: Encoder) -> Outcome
+    requires { ⌜ state .held + 1 < 4294967296 ⌝ }
+    ensures { λ r. ⌜ r ≡ outcome Answer.Taken (timedState state) ⌝ }
+{
+    let skips = state.skips;
+    let mut after = state;
+    after.held = state.held + 1;
+    after.skips = skips.ended();
+    Outcome {
+        answer: Answer::Taken,
+        state: after,
+    }
+}
+
+// The total bytes; no call is taken any more.
+pub fn closed(state: Encoder) -> Outcome
+    ensures { λ r. ⌜ r ≡ closing state ⌝ }
+{
+    let mut after = state;
+    after.closed = true;
+    Outcome {
+        answer: Answer::Finished(state.image),
+        state: after,
+    }
+}

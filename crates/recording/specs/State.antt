@@ -1,0 +1,60 @@
+-- The state of a recording, field by field. antt has no update of one field: what changes some of them names the setters here.
+-- Assumes nothing.
+use Prim.Native.Nat.{ℕ}
+use mathlib.Core.Bool.{Bool, true, false}
+use Rattle.image.specs.Head.{headSize}
+use Rattle.recording.specs.declared.Encoder.{Encoder}
+use Rattle.recording.specs.declared.ProbeSkip.{ProbeSkip}
+use Rattle.recording.specs.Calls.{counted}
+
+-- ---- the skip
+
+abbrev pub probeSkip : (on : Bool) (count : ℕ) → ProbeSkip
+probeSkip b n = record { on = b; count = n }
+
+-- at a start
+abbrev pub noSkips : ProbeSkip
+noSkips = probeSkip false 0
+
+-- a time went back
+unfoldable pub skipBegun : ProbeSkip → ProbeSkip
+skipBegun k = probeSkip true (k .count)
+
+-- a time was taken
+unfoldable pub skipEnded : ProbeSkip → ProbeSkip
+skipEnded k = probeSkip false (k .count)
+
+-- a change was skipped
+unfoldable pub skipCounted : ProbeSkip → ProbeSkip
+skipCounted k = probeSkip (k .on) (counted (k .count))
+
+-- ---- the state
+
+abbrev pub encoder : (closed : Bool) (limit signals held work image blocks : ℕ) → ProbeSkip → Encoder
+encoder c l s h w i b k = record { closed = c; limit = l; signals = s; held = h; work = w; image = i; blocks = b; skips = k }
+
+abbrev pub withClosed : Encoder → Bool → Encoder
+withClosed s c = encoder c (s .limit) (s .signals) (s .held) (s .work) (s .image) (s .blocks) (s .skips)
+
+abbrev pub withHeld : Encoder → ℕ → Encoder
+withHeld s h = encoder (s .closed) (s .limit) (s .signals) h (s .work) (s .image) (s .blocks) (s .skips)
+
+abbrev pub withWork : Encoder → ℕ → Encoder
+withWork s w = encoder (s .closed) (s .limit) (s .signals) (s .held) w (s .image) (s .blocks) (s .skips)
+
+abbrev pub withImage : Encoder → ℕ → Encoder
+withImage s i = encoder (s .closed) (s .limit) (s .signals) (s .held) (s .work) i (s .blocks) (s .skips)
+
+abbrev pub withBlocks : Encoder → ℕ → Encoder
+withBlocks s b = encoder (s .closed) (s .limit) (s .signals) (s .held) (s .work) (s .image) b (s .skips)
+
+abbrev pub withSkips : Encoder → ProbeSkip → Encoder
+withSkips s k = encoder (s .closed) (s .limit) (s .signals) (s .held) (s .work) (s .image) (s .blocks) k
+
+-- as a start leaves it: no times and no blocks; of the image its head is used
+abbrev pub startState : (limit signals : ℕ) → Encoder
+startState l s = encoder false l s 0 0 (headSize s) 0 noSkips
+
+-- before the first start: nothing is open
+abbrev pub closedState : Encoder
+closedState = encoder true 0 0 0 0 0 0 noSkips

@@ -1,0 +1,70 @@
+// What becomes of a skip, and the states that are made whole: code that changes a field or two names these and not every field.
+use crate::Encoder;
+use crate::ProbeSkip;
+use image::layout::head_size;
+ghost use mathlib.Core.Path.{_≡_};
+ghost use Prim.Native.Nat.{_≤_};
+ghost use Rattle.recording.specs.State.{noSkips, skipBegun, skipEnded, skipCounted, startState};
+
+impl ProbeSkip {
+    // At a start.
+    pub fn none() -> ProbeSkip
+        ensures { λ r. ⌜ r ≡ noSkips ⌝ }
+    {
+        ProbeSkip {
+            on: false,
+            count: 0,
+        }
+    }
+
+    // A time went back.
+    pub fn begun(self) -> ProbeSkip
+        ensures { λ r. ⌜ r ≡ skipBegun self ⌝ }
+    {
+        let count = self.count;
+        ProbeSkip { on: true, count }
+    }
+
+    // A time was taken.
+    pub fn ended(self) -> ProbeSkip
+        ensures { λ r. ⌜ r ≡ skipEnded self ⌝ }
+    {
+        let count = self.count;
+        ProbeSkip { on: false, count }
+    }
+
+    // A change was skipped.
+    pub fn counted(self) -> ProbeSkip
+        ensures { λ r. ⌜ r ≡ skipCounted self ⌝ }
+    {
+        let on = self.on;
+        let count = self.count;
+        if count < 4294967295 {
+            return ProbeSkip {
+                on,
+                count: count + 1,
+            };
+        }
+        self
+    }
+}
+
+impl Encoder {
+    // As a start leaves it: no times and no blocks; of the image its head is used.
+    pub fn started(limit: u32, signals: u32) -> Encoder
+        requires { ⌜ signals ≤ 65536 ⌝ }
+        ensures { λ r. ⌜ r ≡ startState limit signals ⌝ }
+    {
+        let image = head_size(signals as usize) as u32;
+        Encoder {
+            closed: false,
+            limit,
+            signals,
+            held: 0,
+            work: 0,
+            image,
+            blocks: 0,
+            skips: ProbeSkip::none(),
+        }
+    }
+}

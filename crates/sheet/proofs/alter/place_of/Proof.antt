@@ -1,0 +1,51 @@
+-- `place_of` is safe and ends: the measure is how many names are left.
+-- Assumes nothing.
+use borrow.Author.Needs.{needs}
+use Prim.Native.Nat.{_-_}
+use Rattle.sheet.proofs.alter.place_of.Statement.{statement}
+use Rattle.sheet.proofs.alter.place_of.Tie as tie
+
+abbrev Inv-loop : tie.InvT-loop
+Inv-loop name names count k₀ k = Unit {0}
+
+abbrev μ-loop : tie.MeasureT-loop
+μ-loop name names count k₀ k = count - k
+
+loop-holds : tie.Need-loop-holds Inv-loop μ-loop
+loop-holds c = search needs
+
+word-requires : tie.Need-word-requires Inv-loop μ-loop
+word-requires c κs = search needs
+
+spells-requires : tie.Need-spells-requires Inv-loop μ-loop
+spells-requires c κs = search needs
+
+returns : tie.Need-returns Inv-loop μ-loop
+returns c = search needs
+
+add-k : tie.Need-add-k Inv-loop μ-loop
+add-k c = search needs
+
+loop-less : tie.Need-loop-less Inv-loop μ-loop
+loop-less c = search needs
+
+loop-again : tie.Need-loop-again Inv-loop μ-loop
+loop-again c = search needs
+
+returns-2 : tie.Need-returns-2 Inv-loop μ-loop
+returns-2 c = search needs
+
+pub place-of-spec : {M : Type 1} → statement M
+place-of-spec =
+    tie.close
+    (tie.spec
+    Inv-loop
+    μ-loop
+    loop-holds
+    word-requires
+    spells-requires
+    returns
+    add-k
+    loop-less
+    loop-again
+    returns-2)

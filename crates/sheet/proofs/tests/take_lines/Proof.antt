@@ -1,0 +1,70 @@
+-- `take_lines` is safe and ends: each turn passes a byte at least. The loop's invariant: all memory keeps its length.
+-- Assumes nothing.
+use Prim.Native.Nat.{_+_, _-_, _≤_}
+use borrow.Author.Needs.{needs}
+use mathlib.Core.Path.{_≡_}
+use lib.ListN.{length}
+use Rattle.sheet.proofs.tests.take_lines.Statement.{statement}
+use Rattle.sheet.proofs.tests.take_lines.Tie as tie
+
+abbrev Inv-loop : tie.InvT-loop
+Inv-loop run₀ sheet records₀ times₀ work₀ image₀ at₀ run records times work image at =
+    (at ≤ length sheet + 1) × (length records ≡ length records₀) × (length times ≡ length times₀) × (length work ≡ length work₀) × (length image ≡ length image₀)
+
+abbrev μ-loop : tie.MeasureT-loop
+μ-loop run₀ sheet records₀ times₀ work₀ image₀ at₀ run records times work image at = length sheet + 1 - at
+
+loop-holds : tie.Need-loop-holds Inv-loop μ-loop
+loop-holds c = search needs
+
+line-end-requires : tie.Need-line-end-requires Inv-loop μ-loop
+line-end-requires c κs = search needs
+
+between-requires : tie.Need-between-requires Inv-loop μ-loop
+between-requires c κs = search needs
+
+add-at : tie.Need-add-at Inv-loop μ-loop
+add-at c = search needs
+
+take-line-requires : tie.Need-take-line-requires Inv-loop μ-loop
+take-line-requires c κs = search needs
+
+loop-less : tie.Need-loop-less Inv-loop μ-loop
+loop-less c = search needs
+
+loop-again : tie.Need-loop-again Inv-loop μ-loop
+loop-again c = search needs
+
+same-length : tie.Need-same-length Inv-loop μ-loop
+same-length c = search needs
+
+same-length-2 : tie.Need-same-length-2 Inv-loop μ-loop
+same-length-2 c = search needs
+
+same-length-3 : tie.Need-same-length-3 Inv-loop μ-loop
+same-length-3 c = search needs
+
+same-length-4 : tie.Need-same-length-4 Inv-loop μ-loop
+same-length-4 c = search needs
+
+returns : tie.Need-returns Inv-loop μ-loop
+returns c = search needs
+
+pub take-lines-spec : {M : Type 1} → statement M
+take-lines-spec =
+    tie.close
+    (tie.spec
+    Inv-loop
+    μ-loop
+    loop-holds
+    line-end-requires
+    between-requires
+    add-at
+    take-line-requires
+    loop-less
+    loop-again
+    same-length
+    same-length-2
+    same-length-3
+    same-length-4
+    returns)

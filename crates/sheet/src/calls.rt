@@ -1,0 +1,78 @@
+// The recorder's calls, each by its number in a run.
+use crate::run::FINISH;
+use crate::run::RAW;
+use crate::run::START;
+use crate::run::TIME;
+use crate::run::VCD;
+use crate::run::low;
+use flat::finish::finish;
+use flat::start::start;
+use flat::time::time_change;
+use flat_changes::raw_value_change;
+use flat_changes::real_change;
+use flat_changes::vcd_value_change;
+use recording::Encoder;
+use recording::Outcome;
+use signal::SignalRef;
+
+// Makes a change. The number is the claim of a raw value, or the bits of a real.
+fn change(
+    call: u64,
+    signal: SignalRef,
+    number: u64,
+    value: &[u8],
+    state: Encoder,
+    records: &mut [u64],
+    times: &[u64],
+    work: &mut [u8],
+    image: &[u8],
+) -> Outcome {
+    match call {
+        VCD => vcd_value_change(state, records, times, work, image, signal, value),
+        RAW => {
+            raw_value_change(
+                state,
+                records,
+                times,
+                work,
+                image,
+                signal,
+                low(number),
+                value,
+            )
+        }
+        _ => real_change(state, records, times, work, image, signal, number),
+    }
+}
+
+// Makes a call with its two numbers; value is the text of a VCD value, or the bytes of a raw one.
+pub fn perform(
+    call: u64,
+    first: u64,
+    second: u64,
+    value: &[u8],
+    state: Encoder,
+    records: &mut [u64],
+    times: &mut [u64],
+    work: &mut [u8],
+    image: &mut [u8],
+) -> Outcome {
+    match call {
+        START => start(state, low(second), low(first), records, &*times, image),
+        TIME => time_change(state, records, times, &*work, image, first),
+        FINISH => finish(state, records, times, &*work, image),
+        _ => {
+            change(
+                call,
+                SignalRef(low(first)),
+                second,
+                value,
+                state,
+                records,
+                &*times,
+                work,
+                &*image,
+            )
+        }
+    }
+}
