@@ -4,8 +4,8 @@
 // The contracts cite specs/Stages.antt. Crate change puts these together with the value's decoding and its bytes.
 use recording::Encoder;
 use recording::Lengths;
+use recording::Target;
 use refusals::state_refusal;
-use signal::SignalRef;
 ghost use mathlib.Core.Path.{_≡_};
 ghost use Rattle.admission.specs.Stages.{admissionOf};
 
@@ -21,8 +21,8 @@ pub enum Admission {
 }
 
 // 2, 10 (first group), 3, skip, 4 by the number, in this order.
-pub fn admitted(state: Encoder, lent: Lengths, work: usize, signal: SignalRef) -> Admission
-    ensures { λ r. ⌜ r ≡ admissionOf state (lent .records) (lent .times) work (lent .image) (signal .0) ⌝ }
+pub fn admitted(state: Encoder, lent: Lengths, work: usize, target: Target) -> Admission
+    ensures { λ r. ⌜ r ≡ admissionOf state (lent .records) (lent .times) work (lent .image) (target .signal .0) ⌝ }
 {
     let n = state_refusal(state, lent, work);
     if n != 0 {
@@ -34,7 +34,7 @@ pub fn admitted(state: Encoder, lent: Lengths, work: usize, signal: SignalRef) -
     if state.skips.on {
         return Admission::Skipped;
     }
-    if state.signals <= signal.0 {
+    if state.signals <= target.signal.0 {
         return Admission::Refused(4);
     }
     Admission::Taken

@@ -1,6 +1,6 @@
 // The passes over the part of the image in which a block is made. All places count from the part's start.
 use image::SignalDataOffset;
-use image::layout::BLOCK_OFFSETS;
+use image::layout::offset_place;
 use numbers::little_endian::get_u32;
 use numbers::little_endian::put_u32;
 use numbers::little_endian::put_u64;
@@ -20,14 +20,14 @@ fn kept_for(tail: &[u8], g: usize) -> u32
     requires { ⌜ offsetPlace g + 4 ≤ length (now tail) ⌝ }
     ensures { λ r. ⌜ r ≡ keptAt g (now (tail .entry)) ⌝ }
 {
-    get_u32(tail, BLOCK_OFFSETS + 4 * g)
+    get_u32(tail, offset_place(g))
 }
 
 fn keep_for(tail: &mut [u8], g: usize, v: u32)
     requires { ⌜ offsetPlace g + 4 ≤ length (now tail) ⌝ }
     ensures { λ _. ⌜ now (tail .exit) ≡ keep g v (now (tail .entry)) ⌝ }
 {
-    put_u32(tail, BLOCK_OFFSETS + 4 * g, v);
+    put_u32(tail, offset_place(g), v);
 }
 
 // Writes the first held of the times from at on.

@@ -10,7 +10,8 @@ use Rattle.recording.specs.Memory.{Memory, After, recordAt, Tests, guarded, ref
 use Rattle.recording.specs.Refusals.{openTests, earlyTests, signalTests, roomTests}
 use Rattle.recording.specs.Step.{changeBy, changeOf}
 use Rattle.change.specs.Found.{Found, foundRefused, foundDone, foundBy, foundOf, afterChange}
-use Rattle.change.proofs.FoundLaws.{picked-by, guarded-by}
+use Rattle.recording.proofs.TestsLaws.{guarded-by}
+use Rattle.lists.proofs.ChoiceLaws.{pick-by}
 
 module _ (m : Memory) (g : ℕ) where
   abbrev stays : ℕ → Found
@@ -37,5 +38,5 @@ module _ (m : Memory) (g : ℕ) where
       sym
       (guarded-whole (openTests m) _
       (guarded-whole (earlyTests (m .state)) _
-      (picked-by (afterChange m g) (m .state .skips .on) _ _ (rw (set-getD (m .records) g _) refl)
+      (pick-by (afterChange m g) (m .state .skips .on) _ _ (rw (set-getD (m .records) g _) refl)
       (guarded-whole (signalTests (m .state) (recordAt m g) g) _ (by-whole (decode (recordAt m g .kind) v))))))

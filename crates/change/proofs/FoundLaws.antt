@@ -10,7 +10,7 @@ use lib.ListN.{length}
 use lib.Seq.{sets}
 use lib.Dec.{leb}
 use Rattle.lists.specs.Choice.{pick}
-use Rattle.lists.proofs.ChoiceLaws.{none-holds}
+use Rattle.lists.proofs.ChoiceLaws.{none-holds, pick-by}
 use Rattle.value.specs.Class.{classNumber, statesOf}
 use Rattle.value.specs.declared.states.States.{States}
 use Rattle.value.specs.declared.states.States.the-variants.{Nine}
@@ -27,9 +27,10 @@ use Rattle.recording.specs.declared.Encoder.{Encoder}
 use Rattle.recording.specs.declared.SignalRecord.{SignalRecord}
 use Rattle.recording.specs.declared.Answer.{Answer}
 use Rattle.recording.specs.Calls.{replyOf, say, recorded, skipped}
-use Rattle.recording.specs.Memory.{Tests, guarded}
+use Rattle.recording.specs.Memory.{guarded}
 use Rattle.recording.specs.Refusals.{stateTests, earlyTests, roomTests}
 use Rattle.recording.specs.Step.{skippedOne}
+use Rattle.recording.proofs.TestsLaws.{guarded-by}
 use Rattle.admission.specs.declared.Admission.{Admission}
 use Rattle.admission.specs.declared.Admission.the-variants as admission
 use Rattle.admission.specs.declared.item.ItemStart.{ItemStart}
@@ -38,17 +39,6 @@ use Rattle.admission.specs.Stages.{working, risen, admissionOf, itemStartOf, it
 use Rattle.admission.proofs.StageLaws.{signalled, heard}
 use Rattle.change.specs.Found.{Found, found, foundRefused, foundDone, foundBy, foundOf}
 use Rattle.change.proofs.NotationLaws.{item-written, given-length}
-
--- ---- a function of what the tests choose
-
-module _ {A B : Type 0} (f : A → B) where
-  pub picked-by : (b : Bool) (x y : A) {p q : B} → f x ≡ p → f y ≡ q → f (pick b x y) ≡ pick b p q
-  picked-by true x y e h = e
-  picked-by false x y e h = h
-
-  pub guarded-by : (ts : Tests) (x : ℕ → A) (y : A) {p : ℕ → B} {q : B} → ((n : ℕ) → f (x n) ≡ p n) → f y ≡ q → f (guarded ts x y) ≡ guarded ts p q
-  guarded-by [] x y e h = h
-  guarded-by (t ∷ ts) x y e h = picked-by (t .0) _ _ (e (t .1)) (guarded-by ts x y e h)
 
 -- ---- the tests before the value
 
@@ -80,7 +70,7 @@ module _ (s : Encoder) (r : SignalRecord) (w : List ℕ) (g : ℕ) (v : Given) w
   found-admitted records times image =
       guarded-by byAdmission (stateTests s records times (length w) image) _ _ (λ n. refl)
       (guarded-by byAdmission (earlyTests s) admission.Refused (heard s g) (λ n. refl)
-      (picked-by byAdmission (s .skips .on) admission.Skipped (signalled s g) refl (by-signal (leb (s .signals) g))))
+      (pick-by byAdmission (s .skips .on) admission.Skipped (signalled s g) refl (by-signal (leb (s .signals) g))))
 
   -- j is the answer that the code meets
   pub found-after : (records times image : ℕ) {i j : Admission} → i ≡ admissionOf s records times (length w) image g → i ≡ j

@@ -16,6 +16,7 @@ use change_notation::Value;
 use recording::Encoder;
 use recording::Lengths;
 use recording::SignalRecord;
+use recording::Target;
 use signal::SignalRef;
 use signal::decode::ChangeValue;
 use signal::decode::DecodedChange;
@@ -124,13 +125,13 @@ pub fn vcd_change(
     state: Encoder,
     kept: SignalRecord,
     lent: Lengths,
-    signal: SignalRef,
+    target: Target,
     value: &[u8],
     work: &mut [u8],
 ) -> Changed
-    ensures { λ r. ⌜ found (replyOf (r .answer)) (r .state) (r .kept) (now (work .exit)) ≡ foundOf state kept (lent .records) (lent .times) (lent .image) (now (work .entry)) (signal .0) (vcd (now (value .entry))) ⌝ }
+    ensures { λ r. ⌜ found (replyOf (r .answer)) (r .state) (r .kept) (now (work .exit)) ≡ foundOf state kept (lent .records) (lent .times) (lent .image) (now (work .entry)) (target .signal .0) (vcd (now (value .entry))) ⌝ }
 {
-    match admitted(state, lent, work.len(), signal) {
+    match admitted(state, lent, work.len(), target) {
         Admission::Refused(n) => {
             return refused(n, state, kept);
         }
@@ -142,7 +143,7 @@ pub fn vcd_change(
     let kind = kept.kind;
     match decode_vcd(kind, value) {
         DecodedChange::Change(change, states) => {
-            record_vcd(state, kept, signal, value, change, states, work)
+            record_vcd(state, kept, target.signal, value, change, states, work)
         }
         DecodedChange::Refused(k) => refused(k, state, kept),
     }
@@ -153,14 +154,14 @@ pub fn raw_change(
     state: Encoder,
     kept: SignalRecord,
     lent: Lengths,
-    signal: SignalRef,
+    target: Target,
     claim: u32,
     value: &[u8],
     work: &mut [u8],
 ) -> Changed
-    ensures { λ r. ⌜ found (replyOf (r .answer)) (r .state) (r .kept) (now (work .exit)) ≡ foundOf state kept (lent .records) (lent .times) (lent .image) (now (work .entry)) (signal .0) (raw claim (now (value .entry))) ⌝ }
+    ensures { λ r. ⌜ found (replyOf (r .answer)) (r .state) (r .kept) (now (work .exit)) ≡ foundOf state kept (lent .records) (lent .times) (lent .image) (now (work .entry)) (target .signal .0) (raw claim (now (value .entry))) ⌝ }
 {
-    match admitted(state, lent, work.len(), signal) {
+    match admitted(state, lent, work.len(), target) {
         Admission::Refused(n) => {
             return refused(n, state, kept);
         }
@@ -172,7 +173,16 @@ pub fn raw_change(
     let kind = kept.kind;
     match decode_raw(kind, claim, value) {
         DecodedChange::Change(change, states) => {
-            record_raw(state, kept, signal, claim, value, change, states, work)
+            record_raw(
+                state,
+                kept,
+                target.signal,
+                claim,
+                value,
+                change,
+                states,
+                work,
+            )
         }
         DecodedChange::Refused(k) => refused(k, state, kept),
     }
@@ -183,13 +193,13 @@ pub fn real_change(
     state: Encoder,
     kept: SignalRecord,
     lent: Lengths,
-    signal: SignalRef,
+    target: Target,
     bits: u64,
     work: &mut [u8],
 ) -> Changed
-    ensures { λ r. ⌜ found (replyOf (r .answer)) (r .state) (r .kept) (now (work .exit)) ≡ foundOf state kept (lent .records) (lent .times) (lent .image) (now (work .entry)) (signal .0) (real bits) ⌝ }
+    ensures { λ r. ⌜ found (replyOf (r .answer)) (r .state) (r .kept) (now (work .exit)) ≡ foundOf state kept (lent .records) (lent .times) (lent .image) (now (work .entry)) (target .signal .0) (real bits) ⌝ }
 {
-    match admitted(state, lent, work.len(), signal) {
+    match admitted(state, lent, work.len(), target) {
         Admission::Refused(n) => {
             return refused(n, state, kept);
         }
@@ -201,7 +211,7 @@ pub fn real_change(
     let kind = kept.kind;
     match decode_real(kind, bits) {
         DecodedChange::Change(change, states) => {
-            record_real(state, kept, signal, bits, change, states, work)
+            record_real(state, kept, target.signal, bits, change, states, work)
         }
         DecodedChange::Refused(k) => refused(k, state, kept),
     }
@@ -212,16 +222,16 @@ pub fn change_found(
     state: Encoder,
     kept: SignalRecord,
     lent: Lengths,
-    signal: SignalRef,
+    target: Target,
     value: Value,
     bytes: &[u8],
     work: &mut [u8],
 ) -> Changed
-    ensures { λ r. ⌜ found (replyOf (r .answer)) (r .state) (r .kept) (now (work .exit)) ≡ foundOf state kept (lent .records) (lent .times) (lent .image) (now (work .entry)) (signal .0) (givenOf value (now (bytes .entry))) ⌝ }
+    ensures { λ r. ⌜ found (replyOf (r .answer)) (r .state) (r .kept) (now (work .exit)) ≡ foundOf state kept (lent .records) (lent .times) (lent .image) (now (work .entry)) (target .signal .0) (givenOf value (now (bytes .entry))) ⌝ }
 {
     match value {
-        Value::Vcd => vcd_change(state, kept, lent, signal, bytes, work),
-        Value::Raw(claim) => raw_change(state, kept, lent, signal, claim, bytes, work),
-        Value::Real(bits) => real_change(state, kept, lent, signal, bits, work),
+        Value::Vcd => vcd_change(state, kept, lent, target, bytes, work),
+        Value::Raw(claim) => raw_change(state, kept, lent, target, claim, bytes, work),
+        Value::Real(bits) => real_change(state, kept, lent, target, bits, work),
     }
 }

@@ -1,4 +1,6 @@
-// A change's value in any of its notations, for a caller that does not know which.
+// A change's value in any of its notations, for a caller that does not know which. Document 01, 'Symbol and value'.
+//
+// The contracts cite specs/Notation.antt. It is a crate of its own so that a wrong claim is refused in a short check.
 use value::states::States;
 ghost use mathlib.Core.Path.{_≡_};
 ghost use Rattle.value.specs.Class.{classNumber};

@@ -3,14 +3,15 @@
 -- Assumes nothing.
 use Prim.Native.Nat.{ℕ, _≤_, _<_}
 use mathlib.Core.Path.{_≡_, refl, sym, ap, _∙_, subst}
-use mathlib.Core.Bool.{Bool, true, false, _||_}
-use mathlib.Core.List.{List, [], _∷_, map}
+use mathlib.Core.Bool.{false, _||_}
+use mathlib.Core.List.{List, [], map}
 use mathlib.Core.Option.{Option, some}
 use borrow.Author.Tests.{le-ltb, lt-leb}
 use lib.ListN.{length, getD}
 use lib.Seq.{sets}
 use lib.Dec.{ltb, leb, eqb}
 use Rattle.lists.specs.Choice.{pick, isSome}
+use Rattle.lists.proofs.ChoiceLaws.{pick-either}
 use Rattle.signal.specs.declared.kind.SignalEncoding.{SignalEncoding}
 use Rattle.signal.specs.declared.kind.SignalEncoding.the-variants.{BitVector, Real, Absent}
 use Rattle.signal.specs.Kind.{absent}
@@ -22,9 +23,10 @@ use Rattle.codec.specs.Parse.{parse}
 use Rattle.codec.proofs.Trip.{parse-of}
 use Rattle.recording.specs.declared.ProbeSkip.{ProbeSkip}
 use Rattle.recording.specs.Calls.{Call, finish, heard}
-use Rattle.recording.specs.Memory.{Memory, After, Tests, guarded, refused}
+use Rattle.recording.specs.Memory.{Memory, After, refused}
 use Rattle.recording.specs.Refusals.{openTests}
 use Rattle.recording.specs.Step.{Cut, noCut, cuts, cutOf, closing, finishCut, finishOf, startOf, step, kindsOf}
+use Rattle.recording.proofs.TestsLaws.{guarded-either}
 use Rattle.history.specs.History.{History, noHistory, listOf, topOf, keptOf, classOf}
 use Rattle.loaded.specs.Opener.{kindAt}
 use Rattle.loaded.specs.Loading.{tableFrom, pushed, Load, load, loads, signalClass}
@@ -134,14 +136,6 @@ module _ (m : Memory) where
   abbrev Keeps : After → Type 0
   Keeps e = e .memory .state .skips ≡ m .state .skips
 
-  kept-picked : (b : Bool) (x y : After) → Keeps x → Keeps y → Keeps (pick b x y)
-  kept-picked true x y p q = p
-  kept-picked false x y p q = q
-
-  kept-guarded : (ts : Tests) (e : After) → Keeps e → Keeps (guarded ts (refused m) e)
-  kept-guarded [] e k = k
-  kept-guarded (t ∷ ts) e k = kept-picked (t .0) (refused m (t .1)) (guarded ts (refused m) e) refl (kept-guarded ts e k)
-
   kept-cut : (c : Cut) → Keeps (finishCut m c)
   kept-cut (noCut n) = refl
   kept-cut (cuts b) = refl
@@ -149,8 +143,8 @@ module _ (m : Memory) where
   finish-skips : Keeps (finishOf m)
   unfolding finishOf
   finish-skips =
-      kept-guarded (openTests m) (pick (eqb (m .state .held) 0) (closing m) (finishCut m (cutOf m)))
-      (kept-picked (eqb (m .state .held) 0) (closing m) (finishCut m (cutOf m)) refl (kept-cut (cutOf m)))
+      guarded-either Keeps (openTests m) (refused m) (pick (eqb (m .state .held) 0) (closing m) (finishCut m (cutOf m))) (λ n. refl)
+      (pick-either Keeps (eqb (m .state .held) 0) (closing m) (finishCut m (cutOf m)) refl (kept-cut (cutOf m)))
 
 -- ---- a recording
 

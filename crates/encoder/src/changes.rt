@@ -5,9 +5,9 @@ use recording::Encoder;
 use recording::Lengths;
 use recording::Outcome;
 use recording::SignalRecord;
+use recording::Target;
 use records::find_record;
 use records::put_record;
-use signal::SignalRef;
 ghost use mathlib.Core.Path.{_≡_};
 ghost use Rattle.signal.specs.Content.{vcd, raw, real};
 ghost use Rattle.recording.specs.Memory.{memory, left};
@@ -21,21 +21,21 @@ pub fn value_change<'r, 't, 'w, 'i, 'b>(
     times: &'t [u64],
     work: &'w mut [u8],
     image: &'i [u8],
-    signal: SignalRef,
+    target: Target,
     value: Value,
     bytes: &'b [u8],
 ) -> Outcome
     ensures { λ r. ⌜ left r (now (records .exit)) (now (times .entry)) (now (work .exit)) (now (image .entry))
-        ≡ changeOf (memory state (now (records .entry)) (now (times .entry)) (now (work .entry)) (now (image .entry))) (signal .0) (givenOf value (now (bytes .entry))) ⌝ }
+        ≡ changeOf (memory state (now (records .entry)) (now (times .entry)) (now (work .entry)) (now (image .entry))) (target .signal .0) (givenOf value (now (bytes .entry))) ⌝ }
 {
     let lent = Lengths {
         records: records.len(),
         times: times.len(),
         image: image.len(),
     };
-    let kept = find_record(&*records, signal);
-    let changed = change_found(state, kept, lent, signal, value, bytes, work);
-    put_record(records, signal, changed.kept);
+    let kept = find_record(&*records, target.signal);
+    let changed = change_found(state, kept, lent, target, value, bytes, work);
+    put_record(records, target.signal, changed.kept);
     Outcome {
         answer: changed.answer,
         state: changed.state,
@@ -49,11 +49,11 @@ pub fn vcd_value_change<'r, 't, 'w, 'i, 'b>(
     times: &'t [u64],
     work: &'w mut [u8],
     image: &'i [u8],
-    signal: SignalRef,
+    target: Target,
     value: &'b [u8],
 ) -> Outcome
     ensures { λ r. ⌜ left r (now (records .exit)) (now (times .entry)) (now (work .exit)) (now (image .entry))
-        ≡ changeOf (memory state (now (records .entry)) (now (times .entry)) (now (work .entry)) (now (image .entry))) (signal .0) (vcd (now (value .entry))) ⌝ }
+        ≡ changeOf (memory state (now (records .entry)) (now (times .entry)) (now (work .entry)) (now (image .entry))) (target .signal .0) (vcd (now (value .entry))) ⌝ }
 {
     value_change(
         state,
@@ -61,7 +61,7 @@ pub fn vcd_value_change<'r, 't, 'w, 'i, 'b>(
         times,
         work,
         image,
-        signal,
+        target,
         Value::Vcd,
         value,
     )
@@ -74,12 +74,12 @@ pub fn raw_claim_change<'r, 't, 'w, 'i, 'b>(
     times: &'t [u64],
     work: &'w mut [u8],
     image: &'i [u8],
-    signal: SignalRef,
+    target: Target,
     claim: u32,
     value: &'b [u8],
 ) -> Outcome
     ensures { λ r. ⌜ left r (now (records .exit)) (now (times .entry)) (now (work .exit)) (now (image .entry))
-        ≡ changeOf (memory state (now (records .entry)) (now (times .entry)) (now (work .entry)) (now (image .entry))) (signal .0) (raw claim (now (value .entry))) ⌝ }
+        ≡ changeOf (memory state (now (records .entry)) (now (times .entry)) (now (work .entry)) (now (image .entry))) (target .signal .0) (raw claim (now (value .entry))) ⌝ }
 {
     value_change(
         state,
@@ -87,7 +87,7 @@ pub fn raw_claim_change<'r, 't, 'w, 'i, 'b>(
         times,
         work,
         image,
-        signal,
+        target,
         Value::Raw(claim),
         value,
     )
@@ -100,11 +100,11 @@ pub fn real_change<'r, 't, 'w, 'i>(
     times: &'t [u64],
     work: &'w mut [u8],
     image: &'i [u8],
-    signal: SignalRef,
+    target: Target,
     bits: u64,
 ) -> Outcome
     ensures { λ r. ⌜ left r (now (records .exit)) (now (times .entry)) (now (work .exit)) (now (image .entry))
-        ≡ changeOf (memory state (now (records .entry)) (now (times .entry)) (now (work .entry)) (now (image .entry))) (signal .0) (real bits) ⌝ }
+        ≡ changeOf (memory state (now (records .entry)) (now (times .entry)) (now (work .entry)) (now (image .entry))) (target .signal .0) (real bits) ⌝ }
 {
     value_change(
         state,
@@ -112,7 +112,7 @@ pub fn real_change<'r, 't, 'w, 'i>(
         times,
         work,
         image,
-        signal,
+        target,
         Value::Real(bits),
         &[],
     )

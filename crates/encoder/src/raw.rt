@@ -4,8 +4,8 @@ use change_notation::raw_notation;
 use recording::Encoder;
 use recording::Outcome;
 use recording::SignalRecord;
+use recording::Target;
 use records::find_record;
-use signal::SignalRef;
 use value::states::States;
 ghost use mathlib.Core.Path.{_≡_};
 ghost use Rattle.value.specs.Class.{classNumber};
@@ -28,11 +28,12 @@ pub fn raw_value_change<'r, 't, 'w, 'i, 'b>(
     times: &'t [u64],
     work: &'w mut [u8],
     image: &'i [u8],
-    signal: SignalRef,
+    target: Target,
     value: RawValue<'b>,
 ) -> Outcome
     ensures { λ r. ⌜ left r (now (records .exit)) (now (times .entry)) (now (work .exit)) (now (image .entry))
-        ≡ changeOf (memory state (now (records .entry)) (now (times .entry)) (now (work .entry)) (now (image .entry))) (signal .0) (raw (classNumber (value .entry .claim)) (now (value .entry .bytes))) ⌝ }
+        ≡ changeOf (memory state (now (records .entry)) (now (times .entry)) (now (work .entry)) (now (image .entry))) (target .signal .0)
+        (raw (classNumber (value .entry .claim)) (now (value .entry .bytes))) ⌝ }
 {
     let notation = raw_notation(value.claim);
     value_change(
@@ -41,7 +42,7 @@ pub fn raw_value_change<'r, 't, 'w, 'i, 'b>(
         times,
         work,
         image,
-        signal,
+        target,
         notation,
         value.bytes,
     )
@@ -62,19 +63,19 @@ pub fn raw_class_change<'r, 't, 'w, 'i, 'b>(
     times: &'t [u64],
     work: &'w mut [u8],
     image: &'i [u8],
-    signal: SignalRef,
+    target: Target,
     class: States,
     bytes: &'b [u8],
 ) -> Outcome
     ensures { λ r. ⌜ left r (now (records .exit)) (now (times .entry)) (now (work .exit)) (now (image .entry))
-        ≡ changeOf (memory state (now (records .entry)) (now (times .entry)) (now (work .entry)) (now (image .entry))) (signal .0) (raw (classNumber class) (now (bytes .entry))) ⌝ }
+        ≡ changeOf (memory state (now (records .entry)) (now (times .entry)) (now (work .entry)) (now (image .entry))) (target .signal .0) (raw (classNumber class) (now (bytes .entry))) ⌝ }
 {
-    let kept = find_record(&*records, signal);
+    let kept = find_record(&*records, target.signal);
     let width = width_of(kept);
     let value = RawValue {
         claim: class,
         width,
         bytes,
     };
-    raw_value_change(state, records, times, work, image, signal, value)
+    raw_value_change(state, records, times, work, image, target, value)
 }

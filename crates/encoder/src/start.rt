@@ -3,6 +3,7 @@ use crate::turns::start_records;
 use plan::start::begin;
 use recording::Encoder;
 use recording::Outcome;
+use recording::Settings;
 use recording::SignalRecord;
 use records::has_unknown_kind;
 ghost use mathlib.Core.Path.{_≡_};
@@ -14,19 +15,18 @@ ghost use Rattle.recording.specs.Step.{startOf};
 // The work buffer is not lent: [] stands for it.
 pub fn start<'r, 't, 'i>(
     state: Encoder,
-    limit: u32,
-    signals: u32,
+    settings: Settings,
     records: &'r mut [SignalRecord],
     times: &'t [u64],
     image: &'i mut [u8],
 ) -> Outcome
     ensures { λ r. ⌜ left r (now (records .exit)) (now (times .entry)) [] (now (image .exit))
-        ≡ startOf limit signals (memory state (now (records .entry)) (now (times .entry)) [] (now (image .entry))) ⌝ }
+        ≡ startOf (settings .limit) (settings .signals) (memory state (now (records .entry)) (now (times .entry)) [] (now (image .entry))) ⌝ }
 {
     let unknown = has_unknown_kind(&*records);
     let n = records.len();
     let t = times.len();
-    let begun = begin(state, limit, signals, unknown, n, t, &mut *image);
+    let begun = begin(state, settings, unknown, n, t, &mut *image);
     start_records(records, begun.turns, image);
     begun.outcome
 }

@@ -5,6 +5,7 @@ use plan::time::prepare_time;
 use recording::Encoder;
 use recording::Outcome;
 use recording::SignalRecord;
+use recording::Stamp;
 ghost use mathlib.Core.Path.{_≡_};
 ghost use Rattle.recording.specs.Memory.{memory, left};
 ghost use Rattle.recording.specs.Step.{timeOf};
@@ -16,13 +17,13 @@ pub fn time_change<'r, 't, 'w, 'i>(
     times: &'t mut [u64],
     work: &'w [u8],
     image: &'i mut [u8],
-    time: u64,
+    stamp: Stamp,
 ) -> Outcome
     ensures { λ r. ⌜ left r (now (records .exit)) (now (times .exit)) (now (work .entry)) (now (image .exit))
-        ≡ timeOf (memory state (now (records .entry)) (now (times .entry)) (now (work .entry)) (now (image .entry))) time ⌝ }
+        ≡ timeOf (memory state (now (records .entry)) (now (times .entry)) (now (work .entry)) (now (image .entry))) (stamp .time) ⌝ }
 {
     let n = records.len();
-    let plan = prepare_time(state, n, &*times, work, &mut *image, time);
+    let plan = prepare_time(state, n, &*times, work, &mut *image, stamp);
     cut_records(records, plan.turns, plan.used, plan.start, &mut *image);
     complete(plan, times, work, image)
 }

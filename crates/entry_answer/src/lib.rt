@@ -1,4 +1,4 @@
-// One entry's bytes answered as a value.
+// One entry's bytes answered as a value. Document 01, 'Loaded signal'. The contracts cite specs/Answer.antt.
 use entry::length::entry_len;
 use numbers::little_endian::get_u64;
 use packed_class::find_min_states;

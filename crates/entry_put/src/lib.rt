@@ -1,4 +1,5 @@
-// One entry's bytes, out of the change that was read in a stream. Each writes from at on.
+// One entry's bytes, out of the change that was read in a stream. Each writes from at on. Document 01, 'Loaded signal'. The contracts cite
+// loaded/specs/EntryBytes.antt.
 use copy::put_part;
 use entry::length::wide_len;
 use entry::read::bit_in;

@@ -3,7 +3,7 @@
 // Any caller may make any call in any state: no entry point has a `requires`. Each contract is one equation between answer, state,
 // records and lent buffers at exit and a definition of recording/specs/Step.antt over those at entry. Signal records are stored as
 // numbers (crate storage); the loops over them are in crate flat_records, the change calls in crate flat_changes; what does not depend on that
-// is decided in crates plan and change.
+// is decided in crates plan, plan_state, change and admission.
 pub mod finish;
 pub mod start;
 pub mod time;

@@ -3,6 +3,7 @@ use flat_records::start_records;
 use plan::start::begin;
 use recording::Encoder;
 use recording::Outcome;
+use recording::Settings;
 use storage::has_unknown_kind;
 ghost use mathlib.Core.Path.{_≡_};
 ghost use mathlib.Core.List.{[]};
@@ -14,19 +15,18 @@ ghost use Rattle.storage.specs.Storage.{recordsOf};
 // The work buffer is not lent: [] stands for it, and any other gives the same (proofs/StartLaws, start-work).
 pub fn start(
     state: Encoder,
-    limit: u32,
-    signals: u32,
+    settings: Settings,
     records: &mut [u64],
     times: &[u64],
     image: &mut [u8],
 ) -> Outcome
     ensures { λ r. ⌜ left r (recordsOf (now (records .exit))) (now (times .entry)) [] (now (image .exit))
-        ≡ startOf limit signals (memory state (recordsOf (now (records .entry))) (now (times .entry)) [] (now (image .entry))) ⌝ }
+        ≡ startOf (settings .limit) (settings .signals) (memory state (recordsOf (now (records .entry))) (now (times .entry)) [] (now (image .entry))) ⌝ }
 {
     let unknown = has_unknown_kind(&*records);
     let n = records.len();
     let t = times.len();
-    let begun = begin(state, limit, signals, unknown, n, t, image);
+    let begun = begin(state, settings, unknown, n, t, image);
     start_records(records, begun.turns, image);
     begun.outcome
 }

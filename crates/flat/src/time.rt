@@ -5,6 +5,7 @@ use plan::time::prepare_time;
 use plan_state::plan::Plan;
 use recording::Encoder;
 use recording::Outcome;
+use recording::Stamp;
 ghost use mathlib.Core.Path.{_≡_};
 ghost use Rattle.recording.specs.Memory.{memory, left};
 ghost use Rattle.recording.specs.Step.{timeOf};
@@ -17,13 +18,13 @@ pub fn time_change(
     times: &mut [u64],
     work: &[u8],
     image: &mut [u8],
-    time: u64,
+    stamp: Stamp,
 ) -> Outcome
     ensures { λ r. ⌜ left r (recordsOf (now (records .exit))) (now (times .exit)) (now (work .entry)) (now (image .exit))
-        ≡ timeOf (memory state (recordsOf (now (records .entry))) (now (times .entry)) (now (work .entry)) (now (image .entry))) time ⌝ }
+        ≡ timeOf (memory state (recordsOf (now (records .entry))) (now (times .entry)) (now (work .entry)) (now (image .entry))) (stamp .time) ⌝ }
 {
     let n = records.len();
-    let plan: Plan = prepare_time(state, n, &*times, work, image, time);
+    let plan: Plan = prepare_time(state, n, &*times, work, image, stamp);
     cut_records(records, plan.turns, plan.used, plan.start, image);
     complete(plan, times, work, image)
 }

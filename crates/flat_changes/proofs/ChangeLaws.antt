@@ -2,11 +2,9 @@
 -- Assumes nothing.
 use Prim.Native.Nat.{ℕ, _-_, _≤_, max}
 use mathlib.Core.Path.{_≡_, refl, sym, ap, _∙_, subst}
-use mathlib.Core.Bool.{Bool, true, false}
-use mathlib.Core.List.{List, [], _∷_}
+use mathlib.Core.List.{List}
 use native.Mathlib.Omega.{arith}
 use lib.ListN.{length, getD, set}
-use Rattle.lists.specs.Choice.{pick}
 use Rattle.value.specs.Class.{classNumber, statesOf}
 use Rattle.value.specs.declared.states.States.the-variants.{Two}
 use Rattle.signal.specs.declared.kind.SignalEncoding.the-variants.{Absent}
@@ -15,9 +13,10 @@ use Rattle.stream.specs.Stream.{changeBytes}
 use Rattle.recording.specs.declared.Encoder.{Encoder}
 use Rattle.recording.specs.declared.SignalRecord.{SignalRecord}
 use Rattle.recording.specs.Calls.{replyOf}
-use Rattle.recording.specs.Memory.{memory, after, recordOf, Tests, guarded}
+use Rattle.recording.specs.Memory.{memory, after, recordOf}
 use Rattle.recording.specs.Refusals.{roomTests}
 use Rattle.recording.specs.Step.{changeOf}
+use Rattle.recording.proofs.TestsLaws.{guarded-either}
 use Rattle.storage.specs.Storage.{recordsOf, Storable}
 use Rattle.storage.proofs.StorageLaws.{storable-with, records-length}
 use Rattle.recording.specs.declared.Lengths.{Lengths}
@@ -32,20 +31,13 @@ use Rattle.change.proofs.ChangeLaws.{change-found}
 use Rattle.recording.specs.declared.Outcome.{Outcome}
 
 module _ (s : Encoder) (r : SignalRecord) (w : List ℕ) (g : ℕ) (fits : Storable r) where
-  picked-fits : (b : Bool) (x y : Found) → Storable (x .kept) → Storable (y .kept) → Storable (pick b x y .kept)
-  picked-fits true x y p q = p
-  picked-fits false x y p q = q
-
-  guarded-fits : (ts : Tests) (e : Found) → Storable (e .kept) → Storable (guarded ts (foundRefused s r w) e .kept)
-  guarded-fits [] e h = h
-  guarded-fits (t ∷ ts) e h = picked-fits (t .0) (foundRefused s r w (t .1)) (guarded ts (foundRefused s r w) e) fits (guarded-fits ts e h)
-
   by-fits : s .held ≤ 65535 → (d : Decoded) → Storable (foundBy s r w g d .kept)
   unfolding foundBy
   by-fits h (refuse n) = fits
   by-fits h (accept a c) =
       let b = changeBytes (r .kind) (s .held - 1 - r .index) a in
-      guarded-fits (roomTests s r (length w) (length b)) (foundDone s r w g b c) (storable-with r (s .held - 1) (statesOf (max (classNumber (r .top)) c)) fits (omega arith))
+      guarded-either (λ (f : Found). Storable (f .kept)) (roomTests s r (length w) (length b)) (foundRefused s r w) (foundDone s r w g b c) (λ n. fits)
+      (storable-with r (s .held - 1) (statesOf (max (classNumber (r .top)) c)) fits (omega arith))
 
   kept-fits : (records times image : ℕ) (v : Given) → Storable (foundOf s r records times image w g v .kept)
   kept-fits records times image v = subst (λ (f : Found). Storable (f .kept)) (found-after s r w g v records times image refl refl) (by (admissionOf s records times (length w) image g) refl)

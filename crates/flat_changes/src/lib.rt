@@ -4,6 +4,7 @@ use admission::changed::Changed;
 use recording::Encoder;
 use recording::Lengths;
 use recording::Outcome;
+use recording::Target;
 use signal::SignalRef;
 use storage::find_record;
 use storage::put_record;
@@ -28,7 +29,8 @@ fn lengths(records: &[u64], times: &[u64], image: &[u8]) -> Lengths
 // Stores the signal's record after a change.
 fn stored(records: &mut [u64], signal: SignalRef, changed: Changed) -> Outcome
     requires { ⌜ Storable (changed .kept) ⌝ }
-    ensures { λ r. ⌜ (r .answer ≡ changed .answer) × (r .state ≡ changed .state) × (recordsOf (now (records .exit)) ≡ set (recordsOf (now (records .entry))) (signal .0) (changed .kept)) ⌝ }
+    ensures { λ r. ⌜ (r .answer ≡ changed .answer) × (r .state ≡ changed .state)
+        × (recordsOf (now (records .exit)) ≡ set (recordsOf (now (records .entry))) (signal .0) (changed .kept)) ⌝ }
 {
     let kept = changed.kept;
     put_record(records, signal, kept);
@@ -44,16 +46,16 @@ pub fn vcd_value_change(
     times: &[u64],
     work: &mut [u8],
     image: &[u8],
-    signal: SignalRef,
+    target: Target,
     value: &[u8],
 ) -> Outcome
     ensures { λ r. ⌜ left r (recordsOf (now (records .exit))) (now (times .entry)) (now (work .exit)) (now (image .entry))
-        ≡ changeOf (memory state (recordsOf (now (records .entry))) (now (times .entry)) (now (work .entry)) (now (image .entry))) (signal .0) (vcd (now (value .entry))) ⌝ }
+        ≡ changeOf (memory state (recordsOf (now (records .entry))) (now (times .entry)) (now (work .entry)) (now (image .entry))) (target .signal .0) (vcd (now (value .entry))) ⌝ }
 {
     let lent = lengths(&*records, times, image);
-    let kept = find_record(&*records, signal);
-    let changed = change::vcd_change(state, kept, lent, signal, value, work);
-    stored(records, signal, changed)
+    let kept = find_record(&*records, target.signal);
+    let changed = change::vcd_change(state, kept, lent, target, value, work);
+    stored(records, target.signal, changed)
 }
 
 // A raw value of a signal, with the class that it claims.
@@ -63,17 +65,17 @@ pub fn raw_value_change(
     times: &[u64],
     work: &mut [u8],
     image: &[u8],
-    signal: SignalRef,
+    target: Target,
     claim: u32,
     value: &[u8],
 ) -> Outcome
     ensures { λ r. ⌜ left r (recordsOf (now (records .exit))) (now (times .entry)) (now (work .exit)) (now (image .entry))
-        ≡ changeOf (memory state (recordsOf (now (records .entry))) (now (times .entry)) (now (work .entry)) (now (image .entry))) (signal .0) (raw claim (now (value .entry))) ⌝ }
+        ≡ changeOf (memory state (recordsOf (now (records .entry))) (now (times .entry)) (now (work .entry)) (now (image .entry))) (target .signal .0) (raw claim (now (value .entry))) ⌝ }
 {
     let lent = lengths(&*records, times, image);
-    let kept = find_record(&*records, signal);
-    let changed = change::raw_change(state, kept, lent, signal, claim, value, work);
-    stored(records, signal, changed)
+    let kept = find_record(&*records, target.signal);
+    let changed = change::raw_change(state, kept, lent, target, claim, value, work);
+    stored(records, target.signal, changed)
 }
 
 // A real of a signal, by the 64 bits of its f64, so that every pattern is kept.
@@ -83,14 +85,14 @@ pub fn real_change(
     times: &[u64],
     work: &mut [u8],
     image: &[u8],
-    signal: SignalRef,
+    target: Target,
     bits: u64,
 ) -> Outcome
     ensures { λ r. ⌜ left r (recordsOf (now (records .exit))) (now (times .entry)) (now (work .exit)) (now (image .entry))
-        ≡ changeOf (memory state (recordsOf (now (records .entry))) (now (times .entry)) (now (work .entry)) (now (image .entry))) (signal .0) (real bits) ⌝ }
+        ≡ changeOf (memory state (recordsOf (now (records .entry))) (now (times .entry)) (now (work .entry)) (now (image .entry))) (target .signal .0) (real bits) ⌝ }
 {
     let lent = lengths(&*records, times, image);
-    let kept = find_record(&*records, signal);
-    let changed = change::real_change(state, kept, lent, signal, bits, work);
-    stored(records, signal, changed)
+    let kept = find_record(&*records, target.signal);
+    let changed = change::real_change(state, kept, lent, target, bits, work);
+    stored(records, target.signal, changed)
 }

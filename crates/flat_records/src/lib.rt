@@ -1,4 +1,5 @@
 // The loops over records stored as numbers, of a start and of a cut: the turns that crate plan leaves to its callers. For crate flat.
+// The contracts cite head/specs/Kinds.antt and cut/specs/Turns.antt.
 use cut::begin_record;
 use head::put_kind;
 use recording::fresh;

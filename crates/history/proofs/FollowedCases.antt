@@ -2,20 +2,19 @@
 -- Assumes nothing.
 use Prim.Native.Nat.{ℕ}
 use mathlib.Core.Path.{_≡_, refl}
-use mathlib.Core.Bool.{false}
 use mathlib.Core.List.{List, [], _∷_}
 use Rattle.lists.specs.Last.{lastOr}
 use Rattle.lists.specs.Same.{same}
 use Rattle.signal.specs.Content.{Content, symbols, happened}
 use Rattle.stream.specs.Entries.{entry}
-use Rattle.history.specs.History.{Change, History, history, listOf, keptAfter, kept, keptOf, topOf, classOf, skipOf}
+use Rattle.history.specs.History.{Change, History, history, listOf, keptAfter, kept, keptOf, topOf, classOf, noSkip}
 use Rattle.history.specs.Followed.{placedFrom, followed}
 
 abbrev at : (place signal : ℕ) → Content → (class : ℕ) → Change
 at p g a c = record { signal = g; place = p; content = a; class = c }
 
 abbrev of : List ℕ → List Change → History
-of ts cs = history ts cs (skipOf false 0)
+of ts cs = history ts cs noSkip
 
 -- times 1 and 5: "1" to signal 0 at 1, raw 11 with the claim 2 to signal 1 at 5
 abbrev first : History

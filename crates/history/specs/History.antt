@@ -1,5 +1,6 @@
 -- Document 01, 'History': what a list of calls says. Fed are kinds, calls and, of the answers, only which are refusals; nothing of the
--- recorder's state. The rule of the skip is written here anew; only its type is the recorder's.
+-- recorder's state. What becomes of the skip is written here anew; its type, how it is counted (`counted`) and how a time stands to the last one
+-- (`wayOf`) are said once, in recording/specs/Calls.antt.
 -- Assumes nothing.
 use Prim.Native.Nat.{ℕ, _-_, max}
 use mathlib.Core.Bool.{Bool, true, false}
@@ -26,6 +27,22 @@ pub record Change : Type 0 where
 abbrev pub skipOf : (on : Bool) (count : ℕ) → ProbeSkip
 skipOf b n = record { on = b; count = n }
 
+-- a time below the last starts it
+abbrev pub skipStarted : ProbeSkip → ProbeSkip
+skipStarted k = skipOf true (k .count)
+
+-- a time above the last ends it
+abbrev pub skipOver : ProbeSkip → ProbeSkip
+skipOver k = skipOf false (k .count)
+
+-- a change in it is counted
+abbrev pub skipOneMore : ProbeSkip → ProbeSkip
+skipOneMore k = skipOf (k .on) (counted (k .count))
+
+-- at the start off, 0
+abbrev pub noSkip : ProbeSkip
+noSkip = skipOf false 0
+
 -- times, changes in call order, a skip and its count
 pub record History : Type 0 where
   pub times : List ℕ
@@ -37,7 +54,7 @@ history t c k = record { times = t; changes = c; skips = k }
 
 -- at the start empty, off, 0
 abbrev pub noHistory : History
-noHistory = history [] [] (skipOf false 0)
+noHistory = history [] [] noSkip
 
 pub record Told : Type 0 where
   pub answer : Heard
@@ -48,14 +65,14 @@ told a h = record { answer = a; next = h }
 
 -- first or above the last: joins the times, ends the skip. Equal: nothing. Below: starts the skip
 abbrev pub tellTime : History → ℕ → Way → Told
-tellTime h t above = told taken (history (h .times ++ t ∷ []) (h .changes) (skipOf false (h .skips .count)))
+tellTime h t above = told taken (history (h .times ++ t ∷ []) (h .changes) (skipOver (h .skips)))
 tellTime h t equal = told calls.same h
-tellTime h t below = told back (history (h .times) (h .changes) (skipOf true (h .skips .count)))
+tellTime h t below = told back (history (h .times) (h .changes) (skipStarted (h .skips)))
 
 -- in a skip: counted. A value that says nothing to the signal's kind (then the call is refused): nothing. Else: joins with the place of
 -- the last time, its content and its class
 abbrev pub tellChange : History → (signal : ℕ) → (skip : Bool) → Decoded → Told
-tellChange h g true d = told skipped (history (h .times) (h .changes) (skipOf (h .skips .on) (counted (h .skips .count))))
+tellChange h g true d = told skipped (history (h .times) (h .changes) (skipOneMore (h .skips)))
 tellChange h g false (refuse n) = told silent h
 tellChange h g false (accept a c) =
     told recorded (history (h .times) (h .changes ++ record { signal = g; place = length (h .times) - 1; content = a; class = c } ∷ []) (h .skips))

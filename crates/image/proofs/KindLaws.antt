@@ -1,12 +1,15 @@
--- Kinds and their numbers: every number is a kind, and a law for each kind.
+-- Kinds and their numbers: every number is a kind, a known kind is read back from its number, and a law for each kind.
 -- Assumes nothing.
 use Prim.Native.Nat.{ℕ}
 use mathlib.Core.Path.{_≡_, refl, sym}
 use mathlib.Core.Bool.{Bool, true, false}
-use borrow.Author.Tests.{eqb-true, eq-eqb, ne-eqb}
+use native.Mathlib.Omega.{arith}
+use borrow.Author.Tests.{eqb-true, eq-eqb, ne-eqb, leb-true}
 use lib.Dec.{eqb}
 use Rattle.lists.specs.Choice.{pick}
+use Rattle.signal.specs.declared.kind.SignalEncoding.{SignalEncoding}
 use Rattle.signal.specs.declared.kind.SignalEncoding.the-variants.{BitVector, Real, Absent}
+use Rattle.signal.specs.Kind.{knownKind}
 use Rattle.image.specs.Head.{kindNumber, kindFrom}
 
 pub kind-number : (n : ℕ) → kindNumber (kindFrom n) ≡ n
@@ -29,3 +32,10 @@ kind-real n e = rw e refl
 
 pub kind-width : (n : ℕ) → (n ≡ 0xffffffff → ⊥) → (n ≡ 0xfffffffe → ⊥) → BitVector n ≡ kindFrom n
 kind-width n a b = rw (ne-eqb n 0xffffffff a, ne-eqb n 0xfffffffe b) refl
+
+-- a known kind, from its number
+pub kind-back : (k : SignalEncoding) → knownKind k ≡ true → kindFrom (kindNumber k) ≡ k
+kind-back (BitVector w) h =
+    let s = leb-true w 65536 h in sym (kind-width w (λ e. omega arith) (λ e. omega arith))
+kind-back Real h = refl
+kind-back Absent h = refl

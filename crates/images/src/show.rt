@@ -6,12 +6,12 @@ use libc::STDOUT_FILENO;
 use loaded::CursorAnswer;
 use loaded::LoadAnswer;
 use loaded::TableAnswer;
+use numbers::wide_64;
 use text::before;
 use text::between;
 use text::print;
 use text::print_bytes;
 use text::print_number;
-use text::wide;
 use value::real::Entry;
 use value::real::SignalValue;
 use value::states::States;
@@ -128,7 +128,7 @@ fn print_symbols(symbols: &[u8], count: usize) {
         if symbols.len() <= i {
             return;
         }
-        print_symbol(wide(symbols[i]) as usize);
+        print_symbol(wide_64(symbols[i]) as usize);
         i += 1;
     }
 }

@@ -66,7 +66,8 @@ pub extern "C" fn wejumo_table(image: &[u8], out: &mut [u64]) -> TableNumbers
 // The stream of a signal in a block, as a place in the image; of length 0 where there is none.
 #[no_mangle]
 pub extern "C" fn wejumo_stream(image: &[u8], block: u32, signal: u32) -> PartNumbers
-    ensures { λ r. ⌜ (partOf r (now (image .entry)) ≡ streamOf (now (image .entry)) block signal) × (r .from + r .length ≤ length (now (image .entry))) × PlaceOf r (now (image .entry)) block signal ⌝ }
+    ensures { λ r. ⌜ (partOf r (now (image .entry)) ≡ streamOf (now (image .entry)) block signal)
+        × (r .from + r .length ≤ length (now (image .entry))) × PlaceOf r (now (image .entry)) block signal ⌝ }
 {
     if !open(image) {
         return PartNumbers { from: 0, length: 0 };
@@ -95,25 +96,12 @@ pub extern "C" fn wejumo_join(first: &[u8], second: &[u8], out: &mut [u8]) -> Jo
     join_numbers(join(first, second, out))
 }
 
-// A number above 1 gives Nine.
-fn states_from(class: u32) -> States
-    ensures { λ r. ⌜ r ≡ statesOf class ⌝ }
-{
-    if class == 0 {
-        return States::Two;
-    }
-    if class == 1 {
-        return States::Four;
-    }
-    States::Nine
-}
-
 // How many bytes each entry takes of a signal of a kind's number and a class.
 #[no_mangle]
 pub extern "C" fn wejumo_entry_length(kind: u32, class: u32) -> usize
     ensures { λ r. ⌜ r ≡ entryLength (kindFrom kind) (classNumber (statesOf class)) ⌝ }
 {
-    entry_len(kind_from(kind), states_from(class))
+    entry_len(kind_from(kind), States::from_class(class))
 }
 
 // The bytes of one entry of a signal of a kind's number and a class. 9.
@@ -126,5 +114,5 @@ pub extern "C" fn wejumo_entry_value(
 ) -> EntryNumbers
     ensures { λ r. ⌜ entryTold r (now (out .exit)) ≡ entryToldOf (entryValueOf (kindFrom kind) (classNumber (statesOf class)) (now (bytes .entry)) (now (out .entry))) ⌝ }
 {
-    entry_numbers(entry_value(bytes, kind_from(kind), states_from(class), out))
+    entry_numbers(entry_value(bytes, kind_from(kind), States::from_class(class), out))
 }

@@ -92,7 +92,8 @@ pub extern "C" fn wejumo_opened_table(image: &[u8], out: &mut [u64]) -> TableNum
 #[no_mangle]
 pub extern "C" fn wejumo_opened_stream(image: &[u8], block: u32, signal: u32) -> PartNumbers
     requires { ⌜ Opened (now image) ⌝ }
-    ensures { λ r. ⌜ (partOf r (now (image .entry)) ≡ streamOf (now (image .entry)) block signal) × (r .from + r .length ≤ length (now (image .entry))) × PlaceOf r (now (image .entry)) block signal ⌝ }
+    ensures { λ r. ⌜ (partOf r (now (image .entry)) ≡ streamOf (now (image .entry)) block signal)
+        × (r .from + r .length ≤ length (now (image .entry))) × PlaceOf r (now (image .entry)) block signal ⌝ }
 {
     if block_count(image) <= block {
         return PartNumbers { from: 0, length: 0 };

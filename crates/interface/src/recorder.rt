@@ -9,6 +9,9 @@ use interface_answers::outcome::OutcomeNumbers;
 use interface_answers::outcome::outcome_numbers;
 use interface_state::StateNumbers;
 use interface_state::state_from;
+use recording::Settings;
+use recording::Stamp;
+use recording::Target;
 use signal::SignalRef;
 ghost use mathlib.Core.Path.{_≡_};
 ghost use mathlib.Core.List.{[]};
@@ -32,7 +35,8 @@ pub extern "C" fn wejumo_start(
     ensures { λ r. ⌜ told r (recordsOf (now (records .exit))) (now (times .entry)) [] (now (image .exit))
         ≡ toldOf state (startOf limit signals (memory (stateFrom state) (recordsOf (now (records .entry))) (now (times .entry)) [] (now (image .entry)))) ⌝ }
 {
-    let done = start(state_from(state), limit, signals, records, times, image);
+    let settings = Settings { limit, signals };
+    let done = start(state_from(state), settings, records, times, image);
     outcome_numbers(state, done)
 }
 
@@ -49,7 +53,8 @@ pub extern "C" fn wejumo_time_change(
     ensures { λ r. ⌜ told r (recordsOf (now (records .exit))) (now (times .exit)) (now (work .entry)) (now (image .exit))
         ≡ toldOf state (timeOf (memory (stateFrom state) (recordsOf (now (records .entry))) (now (times .entry)) (now (work .entry)) (now (image .entry))) time) ⌝ }
 {
-    let done = time_change(state_from(state), records, times, work, image, time);
+    let stamp = Stamp { time };
+    let done = time_change(state_from(state), records, times, work, image, stamp);
     outcome_numbers(state, done)
 }
 
@@ -67,13 +72,16 @@ pub extern "C" fn wejumo_vcd_value_change(
     ensures { λ r. ⌜ told r (recordsOf (now (records .exit))) (now (times .entry)) (now (work .exit)) (now (image .entry))
         ≡ toldOf state (changeOf (memory (stateFrom state) (recordsOf (now (records .entry))) (now (times .entry)) (now (work .entry)) (now (image .entry))) signal (vcd (now (value .entry)))) ⌝ }
 {
+    let target = Target {
+        signal: SignalRef(signal),
+    };
     let done = vcd_value_change(
         state_from(state),
         records,
         times,
         work,
         image,
-        SignalRef(signal),
+        target,
         value,
     );
     outcome_numbers(state, done)
@@ -92,15 +100,19 @@ pub extern "C" fn wejumo_raw_value_change(
     value: &[u8],
 ) -> OutcomeNumbers
     ensures { λ r. ⌜ told r (recordsOf (now (records .exit))) (now (times .entry)) (now (work .exit)) (now (image .entry))
-        ≡ toldOf state (changeOf (memory (stateFrom state) (recordsOf (now (records .entry))) (now (times .entry)) (now (work .entry)) (now (image .entry))) signal (raw claim (now (value .entry)))) ⌝ }
+        ≡ toldOf state (changeOf (memory (stateFrom state) (recordsOf (now (records .entry))) (now (times .entry)) (now (work .entry)) (now (image .entry))) signal
+        (raw claim (now (value .entry)))) ⌝ }
 {
+    let target = Target {
+        signal: SignalRef(signal),
+    };
     let done = raw_value_change(
         state_from(state),
         records,
         times,
         work,
         image,
-        SignalRef(signal),
+        target,
         claim,
         value,
     );
@@ -121,15 +133,10 @@ pub extern "C" fn wejumo_real_change(
     ensures { λ r. ⌜ told r (recordsOf (now (records .exit))) (now (times .entry)) (now (work .exit)) (now (image .entry))
         ≡ toldOf state (changeOf (memory (stateFrom state) (recordsOf (now (records .entry))) (now (times .entry)) (now (work .entry)) (now (image .entry))) signal (real bits)) ⌝ }
 {
-    let done = real_change(
-        state_from(state),
-        records,
-        times,
-        work,
-        image,
-        SignalRef(signal),
-        bits,
-    );
+    let target = Target {
+        signal: SignalRef(signal),
+    };
+    let done = real_change(state_from(state), records, times, work, image, target, bits);
     outcome_numbers(state, done)
 }
 

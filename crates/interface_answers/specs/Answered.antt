@@ -1,11 +1,13 @@
--- How the answers of the calls on images cross as numbers. In each, `answer` 0 is a refusal and `value` then its number; the other
--- answers have numbers that the recorder's calls do not use.
+-- How the answers of the calls on images cross as numbers, and how a caller reads them (`..From`). In each, `answer` 0 is a refusal and
+-- `value` then its number; the other answers have numbers that the recorder's calls do not use.
+-- Law (proofs/AnswerLaws): what a caller reads is what was answered.
 -- Assumes nothing.
 use Prim.Native.Nat.{ℕ}
 use mathlib.Core.Path.{_≡_}
 use mathlib.Core.List.{List}
 use lib.Dec.{eqb}
 use lib.ListN.{take, drop}
+use lib.Ieee.{binary64, ofBits}
 use Rattle.lists.specs.Choice.{pick}
 use Rattle.loaded.specs.Reader.{LoadReply, loaded, LoadAfter, TableReply, counted, TableAfter, Shown, event, vector, real, CursorReply, nothing, found, CursorAfter}
 use Rattle.loaded.specs.Reader as read
@@ -28,6 +30,9 @@ abbrev pub loadNumbersOf : LoadReply → LoadNumbers
 loadNumbersOf (read.LoadReply.refuse n) = record { answer = 0; value = n; class = 0 }
 loadNumbersOf (loaded n c) = record { answer = 8; value = n; class = c }
 
+abbrev pub loadFrom : LoadNumbers → LoadReply
+loadFrom n = pick (eqb (n .answer) 8) (loaded (n .value) (n .class)) (read.LoadReply.refuse (n .value))
+
 pub record LoadTold : Type 0 where
   pub numbers : LoadNumbers
   pub index : List ℕ
@@ -45,6 +50,9 @@ abbrev pub tableNumbersOf : TableReply → TableNumbers
 tableNumbersOf (read.TableReply.refuse n) = record { answer = 0; value = n }
 tableNumbersOf (counted n) = record { answer = 9; value = n }
 
+abbrev pub tableFrom : TableNumbers → TableReply
+tableFrom n = pick (eqb (n .answer) 9) (counted (n .value)) (read.TableReply.refuse (n .value))
+
 pub record TableTold : Type 0 where
   pub numbers : TableNumbers
   pub times : List ℕ
@@ -61,7 +69,6 @@ abbrev pub joinNumbersOf : JoinReply → JoinNumbers
 joinNumbersOf (join.JoinReply.refuse n) = record { answer = 0; value = n }
 joinNumbersOf (joined n) = record { answer = 14; value = n }
 
--- as a caller reads them
 abbrev pub joinFrom : JoinNumbers → JoinReply
 joinFrom n = pick (eqb (n .answer) 14) (joined (n .value)) (join.JoinReply.refuse (n .value))
 
@@ -94,12 +101,24 @@ contentOf (event b) = content 0 0 b
 contentOf (vector c b) = content 1 c b
 contentOf (real f b) = content 2 0 b
 
+abbrev pub contentFrom : ContentNumbers → Shown
+contentFrom n =
+    pick (eqb (n .form) 1) (vector (n .class) (n .bits))
+    (pick (eqb (n .form) 2) (real (ofBits binary64 (n .bits)) (n .bits))
+    (event (n .bits)))
+
 -- ---- the cursor: the entry's number, time and content
 
 abbrev pub cursorNumbersOf : CursorReply → CursorNumbers
 cursorNumbersOf (read.CursorReply.refuse n) = record { answer = 0; value = n; time = 0; content = content 0 0 0 }
 cursorNumbersOf (found n t s) = record { answer = 10; value = n; time = t; content = contentOf s }
 cursorNumbersOf nothing = record { answer = 11; value = 0; time = 0; content = content 0 0 0 }
+
+abbrev pub cursorFrom : CursorNumbers → CursorReply
+cursorFrom n =
+    pick (eqb (n .answer) 10) (found (n .value) (n .time) (contentFrom (n .content)))
+    (pick (eqb (n .answer) 11) nothing
+    (read.CursorReply.refuse (n .value)))
 
 pub record CursorTold : Type 0 where
   pub numbers : CursorNumbers
@@ -117,6 +136,12 @@ abbrev pub entryNumbersOf : EntryReply → EntryNumbers
 entryNumbersOf (entry.EntryReply.refuse n) = record { answer = 0; value = n; content = content 0 0 0 }
 entryNumbersOf (shown s) = record { answer = 12; value = 0; content = contentOf s }
 entryNumbersOf noEntry = record { answer = 13; value = 0; content = content 0 0 0 }
+
+abbrev pub entryFrom : EntryNumbers → EntryReply
+entryFrom n =
+    pick (eqb (n .answer) 12) (shown (contentFrom (n .content)))
+    (pick (eqb (n .answer) 13) noEntry
+    (entry.EntryReply.refuse (n .value)))
 
 pub record EntryTold : Type 0 where
   pub numbers : EntryNumbers

@@ -1,8 +1,11 @@
 -- How the answers of the recorder's calls cross as numbers: what is answered, and beside it the refusal's number or the total bytes of a
 -- finish, 0 for the others.
+-- Law (proofs/ToldLaws): what a caller reads is the answer and the state that a call left (outcome-back).
 -- Assumes nothing.
 use Prim.Native.Nat.{ℕ}
 use mathlib.Core.List.{List}
+use lib.Dec.{eqb}
+use Rattle.lists.specs.Choice.{pick}
 use Rattle.recording.specs.declared.Encoder.{Encoder}
 use Rattle.recording.specs.declared.SignalRecord.{SignalRecord}
 use Rattle.recording.specs.Calls.{Heard, taken, same, back, recorded, skipped, silent, Reply, refuse, say, started, total}
@@ -31,6 +34,18 @@ valueNumber (refuse n) = n
 valueNumber started = 0
 valueNumber (say h) = 0
 valueNumber (total n) = n
+
+-- as a caller reads them
+abbrev pub replyFrom : (answer value : ℕ) → Reply
+replyFrom a v =
+    pick (eqb a 1) started
+    (pick (eqb a 2) (say taken)
+    (pick (eqb a 3) (say same)
+    (pick (eqb a 4) (say back)
+    (pick (eqb a 5) (say recorded)
+    (pick (eqb a 6) (say skipped)
+    (pick (eqb a 7) (total v)
+    (refuse v)))))))
 
 unfoldable pub outcomeOf : StateNumbers → Reply → Encoder → OutcomeNumbers
 outcomeOf s r e = record { answer = answerNumber r; value = valueNumber r; state = stateAfter s e }

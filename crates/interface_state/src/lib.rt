@@ -50,7 +50,7 @@ fn flag_after(before: u32, on: bool) -> u32
     before
 }
 
-// A recording as numbers again; a flag that stays on keeps its number.
+// A recording as numbers again.
 pub fn state_after(before: StateNumbers, state: Encoder) -> StateNumbers
     ensures { λ r. ⌜ r ≡ stateAfter before state ⌝ }
 {

@@ -7,7 +7,7 @@ use mathlib.Core.Bool.{true, false, not}
 use mathlib.Core.List.{List, [], _∷_, _++_, map, append-nil}
 use mathlib.Core.Option.{Option, some, none}
 use native.Mathlib.Omega.{arith}
-use borrow.Author.Tests.{not-false, eqb-true, leb-true, le-ltb, ltb-false}
+use borrow.Author.Tests.{not-false, eqb-true, le-ltb, ltb-false}
 use lib.ListN.{length, getD, take, drop, length-append}
 use lib.Seq.{sets}
 use lib.Dec.{ltb, eqb}
@@ -17,11 +17,11 @@ use Rattle.lists.proofs.ChoiceLaws.{none-holds}
 use Rattle.lists.proofs.SameLaws.{same-true}
 use Rattle.lists.proofs.SetsLaws.{taken-back}
 use Rattle.signal.specs.declared.kind.SignalEncoding.{SignalEncoding}
-use Rattle.signal.specs.declared.kind.SignalEncoding.the-variants.{BitVector, Real, Absent}
 use Rattle.signal.specs.Kind.{knownKind}
 use Rattle.stream.specs.Entries.{Entry}
 use Rattle.image.specs.Block.{Block}
-use Rattle.image.specs.Head.{kindNumber, headSize, imageLimit}
+use Rattle.image.specs.Head.{kindNumber, kindFrom, headSize, imageLimit}
+use Rattle.image.proofs.KindLaws.{kind-back}
 use Rattle.image.specs.Image.{Image, blocksBytes, imageBytes}
 use Rattle.codec.specs.Valid.{KnownKinds, BlocksFit, Valid}
 use Rattle.codec.specs.Ends.{endAfter}
@@ -37,15 +37,7 @@ use Rattle.joined.specs.Join.{JoinReply, refuse, joined, JoinAfter, join
 
 -- known kinds with the same number are the same
 kind-same : (k l : SignalEncoding) → knownKind k ≡ true → knownKind l ≡ true → kindNumber k ≡ kindNumber l → k ≡ l
-kind-same (BitVector v) (BitVector w) h g e = ap BitVector e
-kind-same (BitVector v) Real h g e = absurd (omega (arith, leb-true v 65536 h))
-kind-same (BitVector v) Absent h g e = absurd (omega (arith, leb-true v 65536 h))
-kind-same Real (BitVector w) h g e = absurd (omega (arith, leb-true w 65536 g))
-kind-same Real Real h g e = refl
-kind-same Real Absent h g e = absurd (omega arith)
-kind-same Absent (BitVector w) h g e = absurd (omega (arith, leb-true w 65536 g))
-kind-same Absent Real h g e = absurd (omega arith)
-kind-same Absent Absent h g e = refl
+kind-same k l h g e = sym (kind-back k h) ∙ ap kindFrom e ∙ kind-back l g
 
 kinds-same : (ks ls : List SignalEncoding) → KnownKinds ks → KnownKinds ls → map kindNumber ks ≡ map kindNumber ls → ks ≡ ls
 kinds-same [] [] h g e = refl

@@ -18,19 +18,22 @@ ghost use Rattle.storage.specs.Storage.{recordsOf};
 ghost use Rattle.line.specs.Line as spec;
 ghost use Rattle.line.specs.Command.{kindInside, kindList, recordFor, putKind};
 
+// The least width that no vector has.
+const NO_WIDTH: u32 = 65537;
+
 // The kind that a word says, or none.
 pub enum MaybeKind {
     Some(SignalEncoding),
     None,
 }
 
-// A vector, but for widths that no vector has: they all become 65,537, which start refuses. Stored as they are, the two largest would
+// A vector, but for widths that no vector has: they all become the least of them, which start refuses. Stored as they are, the two largest would
 // be a real and an absent signal.
 fn vector(width: u32) -> SignalEncoding
     ensures { λ r. ⌜ r ≡ spec.vector width ⌝ }
 {
-    if 65537 < width {
-        return SignalEncoding::BitVector(65537);
+    if NO_WIDTH < width {
+        return SignalEncoding::BitVector(NO_WIDTH);
     }
     SignalEncoding::BitVector(width)
 }

@@ -22,6 +22,11 @@ ghost use mathlib.Core.Path.{_≡_};
 ghost use Rattle.line.specs.Line.{lendOf, startOf, timeOf, vcdOf, rawOf, realOf, callOf, lineOf};
 ghost use Rattle.line.specs.Command.{shown};
 
+// How many times a line may lend at most, and how many bytes of work and of image.
+const MAX_TIMES: u64 = 65535;
+
+const MAX_BYTES: u64 = 1048576;
+
 // What a line asks for, with its numbers.
 pub enum Command {
     // A comment or an empty line.
@@ -45,13 +50,13 @@ pub enum Command {
 fn read_lend(line: &[u8]) -> Command
     ensures { λ r. ⌜ shown (now (line .entry)) r ≡ lendOf (now (line .entry)) ⌝ }
 {
-    let Number::Value(times) = decimal(word(line, 1), 65535) else {
+    let Number::Value(times) = decimal(word(line, 1), MAX_TIMES) else {
         return Command::NotUnderstood;
     };
-    let Number::Value(work) = decimal(word(line, 2), 1048576) else {
+    let Number::Value(work) = decimal(word(line, 2), MAX_BYTES) else {
         return Command::NotUnderstood;
     };
-    let Number::Value(image) = decimal(after(line, 3), 1048576) else {
+    let Number::Value(image) = decimal(after(line, 3), MAX_BYTES) else {
         return Command::NotUnderstood;
     };
     Command::Lend(times, work, image)

@@ -1,4 +1,5 @@
 // Numbers that stand in a line: decimal ones, and the 64 bits of a real in hexadecimal.
+use numbers::wide_64;
 ghost use mathlib.Core.Path.{_≡_};
 ghost use Prim.Native.Nat.{_≤_};
 ghost use Rattle.line.specs.Numbers.{digitOf, numberTo, bitsOf};
@@ -16,12 +17,6 @@ pub enum Number32 {
     None,
 }
 
-fn widened(x: u8) -> u64
-    ensures { λ r. ⌜ r ≡ x ⌝ }
-{
-    x as u64
-}
-
 // A digit's number, of either case; 16 for any other byte.
 pub fn digit(b: u8) -> u64
     ensures { λ r. ⌜ (r ≡ digitOf b) × (r ≤ 16) ⌝ }
@@ -30,19 +25,19 @@ pub fn digit(b: u8) -> u64
         return 16;
     }
     if b <= b'9' {
-        return widened(b - b'0');
+        return wide_64(b - b'0');
     }
     if b < b'A' {
         return 16;
     }
     if b <= b'F' {
-        return widened(b - b'A') + 10;
+        return wide_64(b - b'A') + 10;
     }
     if b < b'a' {
         return 16;
     }
     if b <= b'f' {
-        return widened(b - b'a') + 10;
+        return wide_64(b - b'a') + 10;
     }
     16
 }

@@ -46,6 +46,16 @@ pub none-holds : (a b : Bool) → a || b ≡ false → (a ≡ false) × (b ≡ f
 none-holds false b e = (refl, e)
 none-holds true b e = (cc, cc)
 
+-- what holds of both holds of the chosen one
+pub pick-either : {A : Type 0} (P : A → Type 0) (t : Bool) (x y : A) → P x → P y → P (pick t x y)
+pick-either P true x y p q = p
+pick-either P false x y p q = q
+
+-- a function of the chosen one
+pub pick-by : {A B : Type 0} (f : A → B) (t : Bool) (x y : A) {p q : B} → f x ≡ p → f y ≡ q → f (pick t x y) ≡ pick t p q
+pick-by f true x y e h = e
+pick-by f false x y e h = h
+
 -- a choice between the same
 pub pick-same : {A : Type 0} (t : Bool) (x : A) → pick t x x ≡ x
 pick-same true x = refl

@@ -1,5 +1,5 @@
 // What the blocks say of a signal without its changes: how many bytes its streams have, and with them how many entries at most, and
-// its class.
+// its class. Document 01, 'Loaded signal'. The contracts cite specs/Least.antt and loaded/specs/Loading.antt.
 use packed_class::larger;
 use packed_symbols::bytes_required;
 use signal::kind::SignalEncoding;

@@ -6,10 +6,18 @@ pub mod leb128;
 pub mod little_endian;
 
 ghost use mathlib.Core.Path.{_≡_};
+ghost use Prim.Native.Nat.{_<_};
 
 // A byte as a number with room above it.
 pub fn wide(x: u8) -> u32
     ensures { λ r. ⌜ r ≡ x ⌝ }
 {
     x as u32
+}
+
+// The same with more room.
+pub fn wide_64(x: u8) -> u64
+    ensures { λ r. ⌜ (r ≡ x) × (r < 256) ⌝ }
+{
+    x as u64
 }

@@ -10,8 +10,10 @@ use encoder::start;
 use encoder::time;
 use recording::Encoder;
 use recording::Outcome;
+use recording::Settings;
 use recording::SignalRecord;
-use signal::SignalRef;
+use recording::Stamp;
+use recording::Target;
 use value::states::States;
 ghost use mathlib.Core.Path.{_≡_};
 ghost use mathlib.Core.List.{[]};
@@ -35,17 +37,16 @@ fn keep(outcome: Outcome, records: [SignalRecord; 2]) -> Kept
 // A start. The work buffer is not lent: [] stands for it.
 pub fn start<'t, 'i>(
     state: Encoder,
-    limit: u32,
-    signals: u32,
+    settings: Settings,
     kept: [SignalRecord; 2],
     times: &'t [u64],
     image: &'i mut [u8],
 ) -> Kept
     ensures { λ r. ⌜ left (r .outcome) (r .records) (now (times .entry)) [] (now (image .exit))
-        ≡ startOf limit signals (memory state kept (now (times .entry)) [] (now (image .entry))) ⌝ }
+        ≡ startOf (settings .limit) (settings .signals) (memory state kept (now (times .entry)) [] (now (image .entry))) ⌝ }
 {
     let mut records = kept;
-    let outcome = start::start(state, limit, signals, &mut records, times, image);
+    let outcome = start::start(state, settings, &mut records, times, image);
     keep(outcome, records)
 }
 
@@ -56,13 +57,13 @@ pub fn time_change<'t, 'w, 'i>(
     times: &'t mut [u64],
     work: &'w [u8],
     image: &'i mut [u8],
-    time: u64,
+    stamp: Stamp,
 ) -> Kept
     ensures { λ r. ⌜ left (r .outcome) (r .records) (now (times .exit)) (now (work .entry)) (now (image .exit))
-        ≡ timeOf (memory state kept (now (times .entry)) (now (work .entry)) (now (image .entry))) time ⌝ }
+        ≡ timeOf (memory state kept (now (times .entry)) (now (work .entry)) (now (image .entry))) (stamp .time) ⌝ }
 {
     let mut records = kept;
-    let outcome = time::time_change(state, &mut records, times, work, image, time);
+    let outcome = time::time_change(state, &mut records, times, work, image, stamp);
     keep(outcome, records)
 }
 
@@ -73,14 +74,14 @@ pub fn vcd_value_change<'t, 'w, 'i, 'b>(
     times: &'t [u64],
     work: &'w mut [u8],
     image: &'i [u8],
-    signal: SignalRef,
+    target: Target,
     value: &'b [u8],
 ) -> Kept
     ensures { λ r. ⌜ left (r .outcome) (r .records) (now (times .entry)) (now (work .exit)) (now (image .entry))
-        ≡ changeOf (memory state kept (now (times .entry)) (now (work .entry)) (now (image .entry))) (signal .0) (vcd (now (value .entry))) ⌝ }
+        ≡ changeOf (memory state kept (now (times .entry)) (now (work .entry)) (now (image .entry))) (target .signal .0) (vcd (now (value .entry))) ⌝ }
 {
     let mut records = kept;
-    let outcome = changes::vcd_value_change(state, &mut records, times, work, image, signal, value);
+    let outcome = changes::vcd_value_change(state, &mut records, times, work, image, target, value);
     keep(outcome, records)
 }
 
@@ -91,12 +92,12 @@ pub fn raw_class_change<'t, 'w, 'i, 'b>(
     times: &'t [u64],
     work: &'w mut [u8],
     image: &'i [u8],
-    signal: SignalRef,
+    target: Target,
     claim: States,
     bytes: &'b [u8],
 ) -> Kept
     ensures { λ r. ⌜ left (r .outcome) (r .records) (now (times .entry)) (now (work .exit)) (now (image .entry))
-        ≡ changeOf (memory state kept (now (times .entry)) (now (work .entry)) (now (image .entry))) (signal .0) (raw (classNumber claim) (now (bytes .entry))) ⌝ }
+        ≡ changeOf (memory state kept (now (times .entry)) (now (work .entry)) (now (image .entry))) (target .signal .0) (raw (classNumber claim) (now (bytes .entry))) ⌝ }
 {
     let mut records = kept;
     let outcome = raw::raw_class_change(
@@ -105,7 +106,7 @@ pub fn raw_class_change<'t, 'w, 'i, 'b>(
         times,
         work,
         image,
-        signal,
+        target,
         claim,
         bytes,
     );
@@ -119,12 +120,12 @@ pub fn raw_claim_change<'t, 'w, 'i, 'b>(
     times: &'t [u64],
     work: &'w mut [u8],
     image: &'i [u8],
-    signal: SignalRef,
+    target: Target,
     claim: u32,
     bytes: &'b [u8],
 ) -> Kept
     ensures { λ r. ⌜ left (r .outcome) (r .records) (now (times .entry)) (now (work .exit)) (now (image .entry))
-        ≡ changeOf (memory state kept (now (times .entry)) (now (work .entry)) (now (image .entry))) (signal .0) (raw claim (now (bytes .entry))) ⌝ }
+        ≡ changeOf (memory state kept (now (times .entry)) (now (work .entry)) (now (image .entry))) (target .signal .0) (raw claim (now (bytes .entry))) ⌝ }
 {
     let mut records = kept;
     let outcome = changes::raw_claim_change(
@@ -133,7 +134,7 @@ pub fn raw_claim_change<'t, 'w, 'i, 'b>(
         times,
         work,
         image,
-        signal,
+        target,
         claim,
         bytes,
     );
@@ -147,14 +148,14 @@ pub fn real_change<'t, 'w, 'i>(
     times: &'t [u64],
     work: &'w mut [u8],
     image: &'i [u8],
-    signal: SignalRef,
+    target: Target,
     bits: u64,
 ) -> Kept
     ensures { λ r. ⌜ left (r .outcome) (r .records) (now (times .entry)) (now (work .exit)) (now (image .entry))
-        ≡ changeOf (memory state kept (now (times .entry)) (now (work .entry)) (now (image .entry))) (signal .0) (real bits) ⌝ }
+        ≡ changeOf (memory state kept (now (times .entry)) (now (work .entry)) (now (image .entry))) (target .signal .0) (real bits) ⌝ }
 {
     let mut records = kept;
-    let outcome = changes::real_change(state, &mut records, times, work, image, signal, bits);
+    let outcome = changes::real_change(state, &mut records, times, work, image, target, bits);
     keep(outcome, records)
 }
 

@@ -1,7 +1,10 @@
 // The calls on two records, each by its number in a run.
 use owned::Kept;
 use recording::Encoder;
+use recording::Settings;
 use recording::SignalRecord;
+use recording::Stamp;
+use recording::Target;
 use sheet::run::FINISH;
 use sheet::run::REAL;
 use sheet::run::START;
@@ -15,7 +18,7 @@ use value::states::States;
 // its number, so that both calls are made.
 fn change(
     call: u64,
-    signal: SignalRef,
+    target: Target,
     number: u64,
     value: &[u8],
     state: Encoder,
@@ -25,14 +28,14 @@ fn change(
     image: &[u8],
 ) -> Kept {
     if call == VCD {
-        return owned::vcd_value_change(state, records, times, work, image, signal, value);
+        return owned::vcd_value_change(state, records, times, work, image, target, value);
     }
     if call == REAL {
-        return owned::real_change(state, records, times, work, image, signal, number);
+        return owned::real_change(state, records, times, work, image, target, number);
     }
     if number == 0 {
         let claim = States::Two;
-        return owned::raw_class_change(state, records, times, work, image, signal, claim, value);
+        return owned::raw_class_change(state, records, times, work, image, target, claim, value);
     }
     owned::raw_claim_change(
         state,
@@ -40,7 +43,7 @@ fn change(
         times,
         work,
         image,
-        signal,
+        target,
         low(number),
         value,
     )
@@ -59,13 +62,25 @@ pub fn perform(
     image: &mut [u8],
 ) -> Kept {
     match call {
-        START => owned::start(state, low(second), low(first), records, &*times, image),
-        TIME => owned::time_change(state, records, times, &*work, image, first),
+        START => {
+            let settings = Settings {
+                limit: low(second),
+                signals: low(first),
+            };
+            owned::start(state, settings, records, &*times, image)
+        }
+        TIME => {
+            let stamp = Stamp { time: first };
+            owned::time_change(state, records, times, &*work, image, stamp)
+        }
         FINISH => owned::finish(state, records, times, &*work, image),
         _ => {
+            let target = Target {
+                signal: SignalRef(low(first)),
+            };
             change(
                 call,
-                SignalRef(low(first)),
+                target,
                 second,
                 value,
                 state,

@@ -10,7 +10,7 @@ use value::states::States;
 ghost use mathlib.Core.Path.{_≡_};
 ghost use Prim.Native.Nat.{_<_, _≤_};
 ghost use lib.ListN.{length};
-ghost use Rattle.value.specs.Class.{classNumber, statesOf};
+ghost use Rattle.value.specs.Class.{classNumber};
 ghost use Rattle.packed.specs.Packed.{packedLength, unpacked};
 ghost use Rattle.packed.specs.Raw.{rawSymbols, lastOf, checked};
 ghost use Rattle.value.specs.Change.{changeOf};
@@ -43,16 +43,6 @@ fn decode_packed(width: u32, states: States, part: &[u8]) -> BitVecChange
     }
 }
 
-// The class that a claim names; above 1 it is Nine. That a claim above 2 is bad, `decode_raw_change` alone decides.
-pub fn claimed_states(claim: u32) -> States
-    ensures { λ r. ⌜ r ≡ statesOf claim ⌝ }
-{
-    if claim < 2 {
-        return States::from_number(claim as u8);
-    }
-    States::Nine
-}
-
 // What a raw value that claims a class says to a vector of a width.
 pub fn decode_raw_change(width: u32, claim: u32, value: &[u8]) -> BitVecChange
     ensures { λ r. ⌜ r ≡ changeOf width (rawSymbols width claim (now (value .entry))) ⌝ }
@@ -60,7 +50,7 @@ pub fn decode_raw_change(width: u32, claim: u32, value: &[u8]) -> BitVecChange
     if 2 < claim {
         return BitVecChange::Bad;
     }
-    let states = claimed_states(claim);
+    let states = States::from_class(claim);
     let count = bytes_required(states, width);
     if value.len() < count {
         return BitVecChange::Bad;

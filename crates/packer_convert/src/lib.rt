@@ -1,4 +1,4 @@
-// The last bytes of a vector given packed in another class, as `packer_letters` has them of a text.
+// The last bytes of a vector given packed in another class, as `packer_letters` has them of a text. The contracts cite packer/specs/Number.antt.
 use packed_symbols::get_bit;
 use packer::Notation;
 use packer::pushed;

@@ -1,4 +1,4 @@
-// A packed value that is in the class already: its bytes are copied.
+// A packed value that is in the class already: its bytes are copied. The contracts cite packed/specs/Packed.antt.
 use copy::put_part;
 use packed_symbols::bytes_required;
 use value::states::States;

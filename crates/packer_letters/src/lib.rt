@@ -1,4 +1,5 @@
-// The last bytes of a vector given as VCD text, whose symbols all stand in the text: a loop that has nothing to ask.
+// The last bytes of a vector given as VCD text, whose symbols all stand in the text: a loop that has nothing to ask. Document 01, 'Symbol and
+// value'. The contracts cite packer/specs/Number.antt.
 use packer::Notation;
 use packer::pushed;
 use value::states::States;

@@ -5,6 +5,7 @@ use plan_state::begun;
 use plan_state::refused;
 use recording::Encoder;
 use recording::Lengths;
+use recording::Settings;
 use refusals::start_refusal;
 ghost use mathlib.Core.Path.{_≡_};
 ghost use lib.ListN.{length};
@@ -14,27 +15,26 @@ ghost use Rattle.plan.specs.Begin.{beginOf, beginIn};
 // refused. unknown tells of a record whose kind is unknown.
 pub fn begin(
     state: Encoder,
-    limit: u32,
-    signals: u32,
+    settings: Settings,
     unknown: bool,
     n: usize,
     times: usize,
     image: &mut [u8],
 ) -> Begun
-    ensures { λ r. ⌜ (r ≡ beginOf state limit signals unknown n times (length (now (image .entry))))
-        × (now (image .exit) ≡ beginIn limit signals unknown n times (now (image .entry))) ⌝ }
+    ensures { λ r. ⌜ (r ≡ beginOf state (settings .limit) (settings .signals) unknown n times (length (now (image .entry))))
+        × (now (image .exit) ≡ beginIn (settings .limit) (settings .signals) unknown n times (now (image .entry))) ⌝ }
 {
     let lent = Lengths {
         records: n,
         times,
         image: image.len(),
     };
-    let why = start_refusal(limit, signals, unknown, lent);
+    let why = start_refusal(settings, unknown, lent);
     if why != 0 {
         let outcome = refused(why, state);
         return Begun { outcome, turns: 0 };
     }
-    put_numbers(image, limit, signals);
-    let outcome = begun(limit, signals);
+    put_numbers(image, settings.limit, settings.signals);
+    let outcome = begun(settings);
     Begun { outcome, turns: n }
 }

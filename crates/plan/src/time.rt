@@ -14,6 +14,7 @@ use plan_state::way::Way;
 use plan_state::way::way_of;
 use recording::Encoder;
 use recording::Lengths;
+use recording::Stamp;
 use refusals::state_refusal;
 ghost use mathlib.Core.Path.{_≡_};
 ghost use lib.ListN.{length};
@@ -24,32 +25,32 @@ ghost use Rattle.plan.specs.Plan.{planBy, planTime};
 ghost use Rattle.plan.specs.Carry.{openedBy};
 
 // A time that is above: a full table is cut first.
-fn plan_above(state: Encoder, lent: Lengths, work: &[u8], time: u64) -> Plan
+fn plan_above(state: Encoder, lent: Lengths, work: &[u8], stamp: Stamp) -> Plan
     requires { ⌜ first (stateTests state (lent .records) (lent .times) (length (now work)) (lent .image)) ≡ 0 ⌝ }
-    ensures { λ r. ⌜ r ≡ planBy state (lent .records) (now (work .entry)) (lent .image) time above ⌝ }
+    ensures { λ r. ⌜ r ≡ planBy state (lent .records) (now (work .entry)) (lent .image) (stamp .time) above ⌝ }
 {
     if state.held < state.limit {
-        return plan_taken(plan_still(taken(state), state), time);
+        return plan_taken(plan_still(taken(state), state), stamp.time);
     }
     let block = cut_size(state, work, lent.image);
     if block.refusal != 0 {
         return plan_still(refused(block.refusal, state), state);
     }
     let after = taken(cut_state(state, block.size));
-    plan_taken(plan_cut(after, state, block.size, lent.records), time)
+    plan_taken(plan_cut(after, state, block.size, lent.records), stamp.time)
 }
 
 // A larger time than the last is taken, after a cut if the table is full; an equal one changes nothing; a smaller one starts a skip.
-fn plan_time(state: Encoder, lent: Lengths, times: &[u64], work: &[u8], time: u64) -> Plan
+fn plan_time(state: Encoder, lent: Lengths, times: &[u64], work: &[u8], stamp: Stamp) -> Plan
     requires { ⌜ lent .times ≡ length (now times) ⌝ }
-    ensures { λ r. ⌜ r ≡ planTime state (lent .records) (now (times .entry)) (now (work .entry)) (lent .image) time ⌝ }
+    ensures { λ r. ⌜ r ≡ planTime state (lent .records) (now (times .entry)) (now (work .entry)) (lent .image) (stamp .time) ⌝ }
 {
     let n = state_refusal(state, lent, work.len());
     if n != 0 {
         return plan_still(refused(n, state), state);
     }
-    match way_of(times, state.held, time) {
-        Way::Above => plan_above(state, lent, work, time),
+    match way_of(times, state.held, stamp.time) {
+        Way::Above => plan_above(state, lent, work, stamp),
         Way::Equal => plan_still(same(state), state),
         Way::Below => plan_still(back(state), state),
     }
@@ -62,9 +63,9 @@ pub fn prepare_time(
     times: &[u64],
     work: &[u8],
     image: &mut [u8],
-    time: u64,
+    stamp: Stamp,
 ) -> Plan
-    ensures { λ r. ⌜ (r ≡ planTime state n (now (times .entry)) (now (work .entry)) (length (now (image .entry))) time)
+    ensures { λ r. ⌜ (r ≡ planTime state n (now (times .entry)) (now (work .entry)) (length (now (image .entry))) (stamp .time))
         × (now (image .exit) ≡ openedBy r (now (times .entry)) (now (work .entry)) (now (image .entry))) ⌝ }
 {
     let lent = Lengths {
@@ -72,7 +73,7 @@ pub fn prepare_time(
         times: times.len(),
         image: image.len(),
     };
-    let plan = plan_time(state, lent, times, work, time);
+    let plan = plan_time(state, lent, times, work, stamp);
     open_planned(plan, times, work, image);
     plan
 }

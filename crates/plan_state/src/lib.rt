@@ -6,6 +6,7 @@ pub mod way;
 use recording::Answer;
 use recording::Encoder;
 use recording::Outcome;
+use recording::Settings;
 ghost use mathlib.Core.Path.{_≡_};
 ghost use Prim.Native.Nat.{_+_, _≤_, _<_};
 ghost use Rattle.recording.specs.State.{startState};
@@ -23,11 +24,11 @@ pub fn refused(n: u32, state: Encoder) -> Outcome
 }
 
 // The state of a recording without times and blocks: of the image its head is used.
-pub fn begun(limit: u32, signals: u32) -> Outcome
-    requires { ⌜ signals ≤ 65536 ⌝ }
-    ensures { λ r. ⌜ r ≡ outcome Answer.Started (startState limit signals) ⌝ }
+pub fn begun(settings: Settings) -> Outcome
+    requires { ⌜ settings .signals ≤ 65536 ⌝ }
+    ensures { λ r. ⌜ r ≡ outcome Answer.Started (startState (settings .limit) (settings .signals)) ⌝ }
 {
-    let state = Encoder::started(limit, signals);
+    let state = Encoder::started(settings);
     Outcome {
         answer: Answer::Started,
         state,

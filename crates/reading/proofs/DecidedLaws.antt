@@ -4,10 +4,10 @@ use Prim.Native.Nat.{ℕ, _≤_, _<_}
 use mathlib.Core.Path.{_≡_, refl, sym}
 use mathlib.Core.Bool.{Bool, true, false, _&&_}
 use native.Mathlib.Omega.{arith}
-use borrow.Author.Tests.{le-leb, lt-leb, lt-ltb, le-ltb, eq-eqb, ne-eqb}
-use lib.Dec.{leb, ltb, eqb}
+use borrow.Author.Tests.{le-leb, lt-leb, lt-ltb, le-ltb}
+use lib.Dec.{leb, ltb}
 use Rattle.lists.specs.Choice.{pick}
-use Rattle.form.specs.Decide.{le?, lt?, eq?, both, mapDec}
+use Rattle.form.specs.Decide.{le?, lt?, both, mapDec}
 use Rattle.reading.specs.Decided.{isYes}
 
 yes-by-le : (a b : ℕ) (d : Dec (a ≤ b)) → isYes d ≡ leb a b
@@ -29,13 +29,6 @@ yes-by-lt a b (no n) = sym (le-ltb a b (by n))
 
 pub yes-lt : (a b : ℕ) → isYes (lt? a b) ≡ ltb a b
 yes-lt a b = yes-by-lt a b (lt? a b)
-
-yes-by-eq : (a b : ℕ) (d : Dec (a ≡ b)) → isYes d ≡ eqb a b
-yes-by-eq a b (yes p) = sym (eq-eqb a b p)
-yes-by-eq a b (no n) = sym (ne-eqb a b n)
-
-pub yes-eq : (a b : ℕ) → isYes (eq? a b) ≡ eqb a b
-yes-eq a b = yes-by-eq a b (eq? a b)
 
 pub yes-both : {A B : Type 0} (x : Dec A) (y : Dec B) → isYes (both x y) ≡ isYes x && isYes y
 yes-both (yes a) (yes b) = refl

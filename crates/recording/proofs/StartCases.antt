@@ -19,7 +19,7 @@ use Rattle.image.specs.Head.{headSize, headBytes, imageLimit}
 use Rattle.recording.specs.Calls.{started}
 use Rattle.recording.specs.Memory.{Memory, memory, After, after, recordOf, refused}
 use Rattle.recording.specs.Refusals.{outside, unknownKind, startTests}
-use Rattle.recording.specs.State.{probeSkip, encoder, startState}
+use Rattle.recording.specs.State.{probeSkip, startState}
 use Rattle.recording.specs.Step.{fresh, kindIn, startOf}
 use Rattle.recording.specs.Runs.{staleState, stale}
 
@@ -199,7 +199,8 @@ other-count = (refl, refl)
 -- widths 1 and 4 with B 4, as on the bench sheet: the head, all records at 0, nothing past the head, and the other buffers as they were
 pub started-anew : startOf 4 2 (lent (BitVector 1 ∷ BitVector 4 ∷ []) 5 26)
     ≡ after started
-    (memory (encoder false 4 2 0 0 24 0 (probeSkip false 0)) (recordOf (BitVector 1) 0 Two ∷ recordOf (BitVector 4) 0 Two ∷ [])
+    (memory (record { closed = false; limit = 4; signals = 2; held = 0; work = 0; image = 24; blocks = 0; skips = probeSkip false 0 })
+    (recordOf (BitVector 1) 0 Two ∷ recordOf (BitVector 4) 0 Two ∷ [])
     (99 ∷ 99 ∷ 99 ∷ 99 ∷ 99 ∷ []) (99 ∷ [])
     (2 ∷ 0 ∷ 0 ∷ 0 ∷ 4 ∷ 0 ∷ 0 ∷ 0 ∷ 0 ∷ 0 ∷ 0 ∷ 0 ∷ 24 ∷ 0 ∷ 0 ∷ 0 ∷ 1 ∷ 0 ∷ 0 ∷ 0 ∷ 4 ∷ 0 ∷ 0 ∷ 0 ∷ 99 ∷ 99 ∷ []))
 unfolding le les headBytes unknownKind startTests startOf

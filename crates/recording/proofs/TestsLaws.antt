@@ -8,6 +8,7 @@ use native.Mathlib.Omega.{arith}
 use borrow.Author.Tests.{lt-ltb, le-ltb, le-leb, lt-leb, eq-eqb, ne-eqb}
 use lib.Dec.{ltb, T, ltb→lt}
 use Rattle.lists.specs.Choice.{pick}
+use Rattle.lists.proofs.ChoiceLaws.{pick-either, pick-by}
 use Rattle.lists.proofs.Table.{and-left, and-right}
 use Rattle.recording.specs.Memory.{Tests, first, guarded}
 
@@ -50,15 +51,18 @@ guarded-first (t ∷ ts) f e n = by (t .0) n (guarded-first ts f e)
     by true m k = refl
     by false m k = k m
 
--- a function carried through: it is taken of every refusal, and of what is not refused
+-- a function of what the tests choose: it is taken of every refusal, and of what is not refused
+pub guarded-by : {A B : Type 0} (h : A → B) (ts : Tests) (f : ℕ → A) (e : A) {p : ℕ → B} {q : B} → ((n : ℕ) → h (f n) ≡ p n) → h e ≡ q → h (guarded ts f e) ≡ guarded ts p q
+guarded-by h [] f e r s = s
+guarded-by h (t ∷ ts) f e r s = pick-by h (t .0) _ _ (r (t .1)) (guarded-by h ts f e r s)
+
 pub guarded-map : {A B : Type 0} (h : A → B) (ts : Tests) (f : ℕ → A) (e : A) → h (guarded ts f e) ≡ guarded ts (λ n. h (f n)) (h e)
-guarded-map h [] f e = refl
-guarded-map h (t ∷ ts) f e = by (t .0) (guarded-map h ts f e)
-  where
-    by : (b : Bool) → h (guarded ts f e) ≡ guarded ts (λ n. h (f n)) (h e)
-        → h (pick b (f (t .1)) (guarded ts f e)) ≡ pick b (h (f (t .1))) (guarded ts (λ n. h (f n)) (h e))
-    by true k = refl
-    by false k = k
+guarded-map h ts f e = guarded-by h ts f e (λ n. refl) refl
+
+-- what holds of every refusal and of what is not refused
+pub guarded-either : {A : Type 0} (P : A → Type 0) (ts : Tests) (f : ℕ → A) (e : A) → ((n : ℕ) → P (f n)) → P e → P (guarded ts f e)
+guarded-either P [] f e r s = s
+guarded-either P (t ∷ ts) f e r s = pick-either P (t .0) (f (t .1)) (guarded ts f e) (r (t .1)) (guarded-either P ts f e r s)
 
 -- what is not refused matters only where no test holds
 pub guarded-same : {A : Type 0} (ts : Tests) (f : ℕ → A) (d e : A) → (AllFalse ts → d ≡ e) → guarded ts f d ≡ guarded ts f e

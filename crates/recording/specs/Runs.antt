@@ -11,12 +11,12 @@ use Rattle.recording.specs.declared.Encoder.{Encoder}
 use Rattle.recording.specs.declared.SignalRecord.{SignalRecord}
 use Rattle.recording.specs.Calls.{Call, time, change}
 use Rattle.recording.specs.Memory.{Memory, memory, recordOf}
-use Rattle.recording.specs.State.{probeSkip, encoder}
+use Rattle.recording.specs.State.{probeSkip}
 use Rattle.recording.specs.Step.{startOf, run, Ran}
 
 -- a state and a record as they may be before a start
 abbrev pub staleState : Encoder
-staleState = encoder true 9 9 9 9 9 9 (probeSkip true 9)
+staleState = record { closed = true; limit = 9; signals = 9; held = 9; work = 9; image = 9; blocks = 9; skips = probeSkip true 9 }
 
 abbrev pub stale : SignalEncoding → SignalRecord
 stale k = recordOf k 7 Nine

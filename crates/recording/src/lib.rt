@@ -1,9 +1,11 @@
 // The state of a recording, its signals' records and its answers. Document 01, 'Recording', 'Turned back'.
 //
 // What each call does to them is defined in specs/Step.antt; the refusals by tests stand in specs/Refusals.antt.
+use signal::SignalRef;
 use signal::kind::SignalEncoding;
 use value::states::States;
 ghost use mathlib.Core.Path.{_≡_};
+ghost use Rattle.recording.specs.Memory.{recordOf};
 ghost use Rattle.recording.specs.Step as step;
 
 pub mod state;
@@ -39,6 +41,22 @@ pub struct Encoder {
     pub skips: ProbeSkip,
 }
 
+// What a recording is started with: B and S.
+pub struct Settings {
+    pub limit: u32,
+    pub signals: u32,
+}
+
+// What a time brings.
+pub struct Stamp {
+    pub time: u64,
+}
+
+// What a change is for.
+pub struct Target {
+    pub signal: SignalRef,
+}
+
 // What a call of a recording answers.
 pub enum Answer {
     Started,
@@ -64,6 +82,19 @@ pub struct Lengths {
     pub records: usize,
     pub times: usize,
     pub image: usize,
+}
+
+// What stands past the records.
+pub fn absent_record() -> SignalRecord
+    ensures { λ r. ⌜ r ≡ recordOf SignalEncoding.Absent 0 States.Two ⌝ }
+{
+    let kind = SignalEncoding::Absent;
+    let lowest = States::Two;
+    SignalRecord {
+        kind,
+        index: 0,
+        top: lowest,
+    }
 }
 
 // The record at the start of a recording: index and class are 0.

@@ -1,6 +1,7 @@
 // What becomes of a skip, and the states that are made whole: code that changes a field or two names these and not every field.
 use crate::Encoder;
 use crate::ProbeSkip;
+use crate::Settings;
 use image::layout::head_size;
 ghost use mathlib.Core.Path.{_≡_};
 ghost use Prim.Native.Nat.{_≤_};
@@ -51,15 +52,15 @@ impl ProbeSkip {
 
 impl Encoder {
     // As a start leaves it: no times and no blocks; of the image its head is used.
-    pub fn started(limit: u32, signals: u32) -> Encoder
-        requires { ⌜ signals ≤ 65536 ⌝ }
-        ensures { λ r. ⌜ r ≡ startState limit signals ⌝ }
+    pub fn started(settings: Settings) -> Encoder
+        requires { ⌜ settings .signals ≤ 65536 ⌝ }
+        ensures { λ r. ⌜ r ≡ startState (settings .limit) (settings .signals) ⌝ }
     {
-        let image = head_size(signals as usize) as u32;
+        let image = head_size(settings.signals as usize) as u32;
         Encoder {
             closed: false,
-            limit,
-            signals,
+            limit: settings.limit,
+            signals: settings.signals,
             held: 0,
             work: 0,
             image,

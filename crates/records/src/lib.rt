@@ -2,6 +2,7 @@
 //
 // Each function moves whole records; what is decided of one record stands in functions by value.
 use recording::SignalRecord;
+use recording::absent_record;
 use signal::SignalRef;
 use signal::kind::SignalEncoding;
 use signal::kind::known_kind;
@@ -12,19 +13,6 @@ ghost use lib.ListN.{getD, set};
 ghost use Rattle.signal.specs.Kind.{knownKind};
 ghost use Rattle.recording.specs.Memory.{recordOf};
 ghost use Rattle.recording.specs.Refusals.{unknownKind};
-
-// What stands past the records.
-fn absent_record() -> SignalRecord
-    ensures { λ r. ⌜ r ≡ recordOf SignalEncoding.Absent 0 States.Two ⌝ }
-{
-    let kind = SignalEncoding::Absent;
-    let top = States::Two;
-    SignalRecord {
-        kind,
-        index: 0,
-        top,
-    }
-}
 
 // A signal's record; past the records stands an absent one.
 pub fn find_record(records: &[SignalRecord], signal: SignalRef) -> SignalRecord

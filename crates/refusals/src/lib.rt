@@ -9,28 +9,29 @@ use image::limits::MAX_TOTAL;
 use image::limits::MIN_LIMIT;
 use recording::Encoder;
 use recording::Lengths;
+use recording::Settings;
 ghost use mathlib.Core.Path.{_≡_};
 ghost use lib.ListN.{drop};
 ghost use Rattle.recording.specs.Memory.{first};
 ghost use Rattle.recording.specs.Refusals.{startTests, stateTests};
 
 // 1: what is not lawful in a start. unknown tells of a record whose kind is unknown.
-pub fn start_refusal(limit: u32, signals: u32, unknown: bool, lent: Lengths) -> u32
-    ensures { λ r. ⌜ r ≡ first (startTests limit signals (lent .records) unknown (lent .times) (lent .image)) ⌝ }
+pub fn start_refusal(settings: Settings, unknown: bool, lent: Lengths) -> u32
+    ensures { λ r. ⌜ r ≡ first (startTests (settings .limit) (settings .signals) (lent .records) unknown (lent .times) (lent .image)) ⌝ }
 {
-    if limit < MIN_LIMIT {
+    if settings.limit < MIN_LIMIT {
         1
-    } else if MAX_LIMIT < limit {
+    } else if MAX_LIMIT < settings.limit {
         1
-    } else if lent.times < limit as usize {
+    } else if lent.times < settings.limit as usize {
         1
-    } else if MAX_SIGNALS < signals {
+    } else if MAX_SIGNALS < settings.signals {
         1
-    } else if signals as usize != lent.records {
+    } else if settings.signals as usize != lent.records {
         1
     } else if unknown {
         1
-    } else if lent.image < head_size(signals as usize) {
+    } else if lent.image < head_size(settings.signals as usize) {
         1
     } else if MAX_TOTAL < lent.image {
         1

@@ -2,6 +2,7 @@
 use crate::question::Question;
 use crate::question::parse;
 use libc::STDOUT_FILENO;
+use numbers::wide_64;
 use packed_symbols::bytes_required;
 use packed_symbols::unpack;
 use signal::decode::ChangeValue;
@@ -10,6 +11,7 @@ use signal::kind::SignalEncoding;
 use signal_decode::decode_raw;
 use signal_decode::decode_real;
 use signal_decode::decode_vcd;
+use stream::read::MAX_DELTA;
 use stream::read::ReadChange;
 use stream_length::change_len;
 use stream_read::read_change;
@@ -23,7 +25,6 @@ use text::number::hex_bytes;
 use text::print;
 use text::print_bytes;
 use text::print_number;
-use text::wide;
 use text::word;
 use value::states::States;
 
@@ -35,7 +36,7 @@ enum Written {
 
 // Writes the change that a VCD value says to the start of out; so do the others.
 fn write_vcd(out: &mut [u8], kind: SignalEncoding, d: u32, value: &[u8]) -> Written {
-    if 65534 < d {
+    if MAX_DELTA < d {
         return Written::Bad;
     }
     match decode_vcd(kind, value) {
@@ -50,7 +51,7 @@ fn write_vcd(out: &mut [u8], kind: SignalEncoding, d: u32, value: &[u8]) -> Writ
 }
 
 fn write_raw(out: &mut [u8], kind: SignalEncoding, d: u32, claim: u32, value: &[u8]) -> Written {
-    if 65534 < d {
+    if MAX_DELTA < d {
         return Written::Bad;
     }
     match decode_raw(kind, claim, value) {
@@ -68,7 +69,7 @@ fn write_raw(out: &mut [u8], kind: SignalEncoding, d: u32, claim: u32, value: &[
 }
 
 fn write_real(out: &mut [u8], d: u32, bits: u64) -> Written {
-    if 65534 < d {
+    if MAX_DELTA < d {
         return Written::Bad;
     }
     match decode_real(SignalEncoding::Real, bits) {
@@ -148,7 +149,7 @@ fn print_read(stream: &[u8], kind: SignalEncoding, d: u32) {
 }
 
 fn print_change(top: u8, stream: &[u8], kind: SignalEncoding, d: u32) {
-    print_number(wide(top));
+    print_number(wide_64(top));
     print(b" ");
     print_bytes(stream);
     print(b" ");

@@ -1,5 +1,6 @@
 // Which line is what, and what another hand does to the state and to lent memory between two calls.
 use crate::run::CALL;
+use crate::run::FIELDS;
 use crate::run::FINISH;
 use crate::run::Run;
 use crate::run::START;
@@ -54,7 +55,7 @@ fn field_of(name: &[u8]) -> usize {
     place_of(
         name,
         b"closed limit signals held work image blocks skip skipped",
-        9,
+        FIELDS,
     )
 }
 
@@ -67,7 +68,7 @@ fn take_start(run: &mut Run, line: &[u8]) -> u64 {
 // `set FIELD N`; false is 0.
 fn set_field(run: &mut Run, line: &[u8]) -> u64 {
     let field = field_of(word(line, 1));
-    if field < 9 {
+    if field < FIELDS {
         run[field] = number_at(line, 2);
     }
     NOTHING

@@ -13,12 +13,15 @@ use flat_changes::real_change;
 use flat_changes::vcd_value_change;
 use recording::Encoder;
 use recording::Outcome;
+use recording::Settings;
+use recording::Stamp;
+use recording::Target;
 use signal::SignalRef;
 
 // Makes a change. The number is the claim of a raw value, or the bits of a real.
 fn change(
     call: u64,
-    signal: SignalRef,
+    target: Target,
     number: u64,
     value: &[u8],
     state: Encoder,
@@ -28,7 +31,7 @@ fn change(
     image: &[u8],
 ) -> Outcome {
     match call {
-        VCD => vcd_value_change(state, records, times, work, image, signal, value),
+        VCD => vcd_value_change(state, records, times, work, image, target, value),
         RAW => {
             raw_value_change(
                 state,
@@ -36,12 +39,12 @@ fn change(
                 times,
                 work,
                 image,
-                signal,
+                target,
                 low(number),
                 value,
             )
         }
-        _ => real_change(state, records, times, work, image, signal, number),
+        _ => real_change(state, records, times, work, image, target, number),
     }
 }
 
@@ -58,13 +61,25 @@ pub fn perform(
     image: &mut [u8],
 ) -> Outcome {
     match call {
-        START => start(state, low(second), low(first), records, &*times, image),
-        TIME => time_change(state, records, times, &*work, image, first),
+        START => {
+            let settings = Settings {
+                limit: low(second),
+                signals: low(first),
+            };
+            start(state, settings, records, &*times, image)
+        }
+        TIME => {
+            let stamp = Stamp { time: first };
+            time_change(state, records, times, &*work, image, stamp)
+        }
         FINISH => finish(state, records, times, &*work, image),
         _ => {
+            let target = Target {
+                signal: SignalRef(low(first)),
+            };
             change(
                 call,
-                SignalRef(low(first)),
+                target,
                 second,
                 value,
                 state,

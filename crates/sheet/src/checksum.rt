@@ -1,7 +1,8 @@
 // A number by which memory is held against what it was: where one place alone differs, so does the number.
+use crate::run::FIELDS;
 use crate::run::OWN;
 use crate::run::Run;
-use text::wide;
+use numbers::wide_64;
 
 // The multiplier is odd, so no difference is lost at 2^54.
 fn mixed(sum: u64, x: u64) -> u64 {
@@ -27,7 +28,7 @@ fn mixed_bytes(sum: u64, s: &[u8]) -> u64 {
     let mut r = sum;
     let mut i = 0;
     while i < s.len() {
-        r = mixed(r, wide(s[i]));
+        r = mixed(r, wide_64(s[i]));
         i += 1;
     }
     r
@@ -37,7 +38,7 @@ fn mixed_bytes(sum: u64, s: &[u8]) -> u64 {
 fn mixed_state(run: &Run) -> u64 {
     let mut r = 0;
     let mut i = 0;
-    while i < 9 {
+    while i < FIELDS {
         r = mixed_wide(r, run[i]);
         i += 1;
     }

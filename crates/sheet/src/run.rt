@@ -14,9 +14,22 @@ pub const CLOSED: usize = 0;
 
 pub const LIMIT: usize = 1;
 
+pub const SIGNALS: usize = 2;
+
+pub const HELD: usize = 3;
+
+pub const USED: usize = 4;
+
 pub const TOTAL: usize = 5;
 
+pub const BLOCKS: usize = 6;
+
+pub const SKIP: usize = 7;
+
 pub const SKIPPED: usize = 8;
+
+// How many fields the state has.
+pub const FIELDS: usize = 9;
 
 // How many records the recording has; how many times, work bytes and image bytes are lent.
 pub const RECORDS: usize = 9;
@@ -86,13 +99,13 @@ pub fn state_of(run: &Run) -> Encoder {
     Encoder {
         closed: run[CLOSED] != 0,
         limit: low(run[LIMIT]),
-        signals: low(run[2]),
-        held: low(run[3]),
-        work: run[4],
+        signals: low(run[SIGNALS]),
+        held: low(run[HELD]),
+        work: run[USED],
         image: low(run[TOTAL]),
-        blocks: low(run[6]),
+        blocks: low(run[BLOCKS]),
         skips: ProbeSkip {
-            on: run[7] != 0,
+            on: run[SKIP] != 0,
             count: low(run[SKIPPED]),
         },
     }
@@ -105,15 +118,15 @@ fn flag(b: bool) -> u64 {
     0
 }
 
-pub fn put_state(run: &mut Run, state: Encoder) {
+fn put_state(run: &mut Run, state: Encoder) {
     run[CLOSED] = flag(state.closed);
     run[LIMIT] = state.limit as u64;
-    run[2] = state.signals as u64;
-    run[3] = state.held as u64;
-    run[4] = state.work;
+    run[SIGNALS] = state.signals as u64;
+    run[HELD] = state.held as u64;
+    run[USED] = state.work;
     run[TOTAL] = state.image as u64;
-    run[6] = state.blocks as u64;
-    run[7] = flag(state.skips.on);
+    run[BLOCKS] = state.blocks as u64;
+    run[SKIP] = flag(state.skips.on);
     run[SKIPPED] = state.skips.count as u64;
 }
 

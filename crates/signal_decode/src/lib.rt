@@ -2,7 +2,6 @@
 // 01, 'Turned back'.
 //
 // The contracts cite specs/Content.antt of the crate signal, through specs/Answer.antt there, which reads the answers' enums. No function has a `requires`.
-use packed_raw::claimed_states;
 use packed_raw::decode_raw_change;
 use signal::decode::ChangeValue;
 use signal::decode::DecodedChange;
@@ -66,7 +65,7 @@ pub fn decode_raw(kind: SignalEncoding, claim: u32, value: &[u8]) -> DecodedChan
             if width == 0 {
                 return DecodedChange::Refused(5);
             }
-            let states = claimed_states(claim);
+            let states = States::from_class(claim);
             decoded(decode_raw_change(width, claim, value), states)
         }
         SignalEncoding::Real => DecodedChange::Refused(5),

@@ -5,6 +5,7 @@
 use image::kind::kind_from;
 use image::kind::kind_number;
 use recording::SignalRecord;
+use recording::absent_record;
 use signal::SignalRef;
 use signal::kind::SignalEncoding;
 use signal::kind::known_kind;
@@ -52,13 +53,7 @@ pub fn find_record(records: &[u64], signal: SignalRef) -> SignalRecord
 {
     let at = place_of(signal);
     if records.len() <= at {
-        let kind = SignalEncoding::Absent;
-        let lowest = States::Two;
-        return SignalRecord {
-            kind,
-            index: 0,
-            top: lowest,
-        };
+        return absent_record();
     }
     record_from(records[at])
 }

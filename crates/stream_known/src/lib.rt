@@ -1,5 +1,5 @@
 // One change out of a stream that was accepted: nothing of it is judged again. `known_change` asks that a change stands there, and
-// answers the same as `read_change` of the crate stream_read.
+// answers the same as `read_change` of the crate stream_read. The contracts cite stream/specs/Answer.antt.
 use numbers::leb128::Leb128;
 use numbers::leb128::get_leb128;
 use numbers::little_endian::get_u64;

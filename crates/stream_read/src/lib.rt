@@ -10,12 +10,13 @@ use packed_class::top_clear;
 use packed_symbols::bytes_required;
 use signal::decode::ChangeValue;
 use signal::kind::SignalEncoding;
+use stream::read::MAX_DELTA;
 use stream::read::ReadChange;
 use value::states::MaybeStates;
 use value::states::States;
 use value::symbol::Bit;
 ghost use mathlib.Core.Path.{_≡_};
-ghost use Prim.Native.Nat.{_+_, _-_, _/_, _%_, _≤_, _<_};
+ghost use Prim.Native.Nat.{_+_, _/_, _%_, _≤_, _<_};
 ghost use lib.ListN.{length, drop};
 ghost use Rattle.value.specs.Class.{classNumber};
 ghost use Rattle.packed.specs.Packed.{packedLength};
@@ -27,7 +28,7 @@ ghost use Rattle.signal.specs.declared.kind.SignalEncoding.the-variants.{BitVec
 fn in_range(d: u32, value: ChangeValue, next: usize) -> ReadChange
     ensures { λ r. ⌜ r ≡ answered d value next ⌝ }
 {
-    if 65534 < d {
+    if MAX_DELTA < d {
         return ReadChange::Bad;
     }
     ReadChange::Change(d, value, next)

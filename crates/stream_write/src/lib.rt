@@ -3,7 +3,6 @@
 // The contracts cite specs/Stream.antt (the bytes) and specs/Answer.antt (what was said) of the crate stream.
 use numbers::leb128::put_leb128;
 use numbers::little_endian::put_u64;
-use packed_raw::claimed_states;
 use packed_raw::raw_part;
 use packed_symbols::bytes_required;
 use packer::Notation;
@@ -104,7 +103,7 @@ pub fn put_raw_change(
         ChangeValue::SingleBit(bit) => put_bit(out, at, d, bit),
         ChangeValue::MultiBit(states) => {
             let width = kind.width();
-            let claimed = claimed_states(claim);
+            let claimed = States::from_class(claim);
             let part = raw_part(value, bytes_required(claimed, width));
             put_vector(out, at, d, part, Notation::Packed(claimed), width, states)
         }

@@ -2,15 +2,10 @@
 pub mod number;
 
 use libc::STDOUT_FILENO;
+use numbers::wide_64;
 ghost use Prim.Native.Nat.{_<_};
 ghost use mathlib.Core.Path.{_≡_};
 ghost use lib.ListN.{length};
-
-pub fn wide(x: u8) -> u64
-    ensures { λ r. ⌜ (r ≡ x) × (r < 256) ⌝ }
-{
-    x as u64
-}
 
 pub fn byte_at(s: &[u8], at: usize) -> u8 {
     if at < s.len() {
@@ -78,7 +73,7 @@ pub fn print_number(n: u64) {
 pub fn print_bytes(s: &[u8]) {
     let mut i = 0;
     while i < s.len() {
-        io::print_hex(STDOUT_FILENO, wide(s[i]), 2);
+        io::print_hex(STDOUT_FILENO, wide_64(s[i]), 2);
         i += 1;
     }
 }

@@ -1,7 +1,7 @@
 // Numbers that stand in text: decimal, and bytes in hexadecimal.
 use crate::after;
 use crate::byte_at;
-use crate::wide;
+use numbers::wide_64;
 ghost use Prim.Native.Nat.{_≤_};
 
 // A hexadecimal digit's number; 16 for any other byte.
@@ -12,13 +12,13 @@ fn digit(b: u8) -> u64
         return 16;
     }
     if b <= b'9' {
-        return wide(b - b'0');
+        return wide_64(b - b'0');
     }
     if b < b'a' {
         return 16;
     }
     if b <= b'f' {
-        return wide(b - b'a') + 10;
+        return wide_64(b - b'a') + 10;
     }
     16
 }
@@ -68,7 +68,7 @@ pub fn big_endian(s: &[u8]) -> u64 {
     let mut v: u64 = 0;
     let mut i = 0;
     while i < s.len() {
-        v = v % 72057594037927936 * 256 + wide(s[i]);
+        v = v % 72057594037927936 * 256 + wide_64(s[i]);
         i += 1;
     }
     v

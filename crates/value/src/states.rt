@@ -42,6 +42,16 @@ impl States {
         States::Nine
     }
 
+    // The same for a number that a caller gives.
+    pub fn from_class(n: u32) -> States
+        ensures { λ r. ⌜ r ≡ statesOf n ⌝ }
+    {
+        if n < 2 {
+            return States::from_number(n as u8);
+        }
+        States::Nine
+    }
+
     // The least class that holds a symbol.
     pub fn from_bit(value: Bit) -> States
         ensures { λ r. ⌜ r ≡ statesOf (classOf (value .0)) ⌝ }

@@ -6,7 +6,6 @@ use mathlib.Core.Path.{_≡_, refl, ap, _∙_}
 use mathlib.Core.Bool.{Bool, true, false, _||_, and-false}
 use mathlib.Core.List.{List, [], _∷_, map}
 use mathlib.Core.Option.{Option, some, none}
-use native.Mathlib.Numerals.{unary-clauses}
 use native.Mathlib.Omega.{arith}
 use borrow.Author.Tests.{lt-ltb, le-ltb, ltb-true, ltb-false, leb-true, eq-eqb, ne-eqb, eqb-false}
 use lib.Dec.{ltb, leb, eqb}
@@ -23,6 +22,7 @@ use Rattle.value.specs.declared.states.MaybeStates.the-variants.{Some, None}
 use Rattle.value.specs.declared.change.BitVecChange.the-variants.{SingleBit, MultiBit, Bad}
 use Rattle.value.proofs.SymbolLaws.{letter-symbol}
 use Rattle.lists.specs.Last.{lastOr}
+use Rattle.lists.proofs.LastLaws.{last-of}
 use Rattle.vcd.specs.Vcd.{symbolsIn, vcdBit, withoutB, without0b, textOf, extended, textSymbols, vcdSymbols, asciiStates}
 use Rattle.vcd.proofs.SymbolsLaws.{Symbols, symbols-more, symbols-is, symbols-of, symbols-number}
 use Rattle.vcd.proofs.ExtendedLaws.{Extended, extended-is, extended-some}
@@ -144,12 +144,6 @@ text-change w u {k} one h l e =
     good (some s) f g = let y = symbols-of u f in rw (symbols-number y 0 h, ← (y .size)) (extended-some w s)
 
 -- width 1
-pub last-at : (d : ℕ) (v : List ℕ) → 0 < length v → lastOr d v ≡ getD v (length v - 1) 0
-unfolding lastOr
-last-at d [] h = absurd (omega arith)
-last-at d (x ∷ []) h = refl
-last-at d (x ∷ y ∷ v) h = last-at x (y ∷ v) (omega arith) ∙ simp unary-clauses
-
 pub bit-empty : (v : List ℕ) → length v ≡ 0 → vcdBit v ≡ some (0 ∷ [])
 unfolding vcdBit lastOr
 bit-empty [] h = refl
@@ -157,11 +151,11 @@ bit-empty (x ∷ v) h = absurd (omega arith)
 
 pub bit-b : (v : List ℕ) → 0 < length v → getD v (length v - 1) 0 ≡ 98 → vcdBit v ≡ some (0 ∷ [])
 unfolding vcdBit
-bit-b v h e = rw (last-at 98 v h, e) refl
+bit-b v h e = rw (last-of 98 v h, e) refl
 
 pub bit-last : (v : List ℕ) → 0 < length v → (getD v (length v - 1) 0 ≡ 98 → ⊥) → vcdBit v ≡ symbolsIn (getD v (length v - 1) 0 ∷ [])
 unfolding vcdBit
-bit-last v h f = rw (last-at 98 v h, ne-eqb (getD v (length v - 1) 0) 98 f) refl
+bit-last v h f = rw (last-of 98 v h, ne-eqb (getD v (length v - 1) 0) 98 f) refl
 
 pub change-bit : (b : ℕ) {x : Bit} → maybeBit (symbolOf b) ≡ maybe.Some x → changeOf 1 (symbolsIn (b ∷ [])) ≡ SingleBit x
 unfolding symbolsIn

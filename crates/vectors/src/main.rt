@@ -9,6 +9,7 @@ use numbers::little_endian::get_u32;
 use numbers::little_endian::get_u64;
 use numbers::little_endian::put_u32;
 use numbers::little_endian::put_u64;
+use numbers::wide_64;
 use signal::decode::DecodedChange;
 use signal::kind::SignalEncoding;
 use signal_decode::decode_raw;
@@ -17,7 +18,6 @@ use text::before;
 use text::print;
 use text::print_bytes;
 use text::print_number;
-use text::wide;
 
 fn print_count(name: &[u8], n: u64) {
     print(name);
@@ -109,7 +109,7 @@ fn little_endian_64(v: u64) {
 // The class that the top class rises to, or the refusal's number.
 fn print_decoded(r: DecodedChange) {
     match r {
-        DecodedChange::Change(_, top) => print_line(b"' good ", wide(top.number())),
+        DecodedChange::Change(_, top) => print_line(b"' good ", wide_64(top.number())),
         DecodedChange::Refused(n) => print_line(b"' bad ", n as u64),
     }
 }

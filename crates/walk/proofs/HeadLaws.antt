@@ -17,7 +17,7 @@ use Rattle.signal.specs.declared.kind.SignalEncoding.{SignalEncoding}
 use Rattle.signal.specs.declared.kind.SignalEncoding.the-variants.{BitVector, Real, Absent}
 use Rattle.signal.specs.Kind.{knownKind}
 use Rattle.image.specs.Head.{kindFrom, kindNumber, headSize, headBytes, imageLimit}
-use Rattle.image.proofs.KindLaws.{kind-width}
+use Rattle.image.proofs.KindLaws.{kind-back}
 use Rattle.image.specs.Block.{les}
 use Rattle.image.specs.Image.{Image, blocksBytes, imageBytes}
 use Rattle.codec.specs.ImageForm.{headOf}
@@ -90,12 +90,6 @@ number-small (BitVector w) h = omega (arith, leb-true w 65536 h)
 number-small Real h = omega arith
 number-small Absent h = omega arith
 
-kind-again : (k : SignalEncoding) → knownKind k ≡ true → kindFrom (kindNumber k) ≡ k
-kind-again (BitVector w) h =
-    let s = leb-true w 65536 h in sym (kind-width w (λ e. omega arith) (λ e. omega arith))
-kind-again Real h = refl
-kind-again Absent h = refl
-
 number-at : (ks : List SignalEncoding) (g : ℕ) → g < length ks → getD (map kindNumber ks) g 0 ≡ kindNumber (getD ks g Absent)
 number-at [] g h = absurd (omega arith)
 number-at (k ∷ ks) zero h = refl
@@ -114,7 +108,7 @@ kind-number-at b x g m h =
 pub kind-read : (b : List ℕ) (x : Image) (g n : ℕ) → Means b x → g < length (x .kinds) → n ≡ unle (take 4 (drop (16 + 4 * g) b))
     → kindFrom n ≡ kindAt x g
 kind-read b x g n m h e =
-    ap kindFrom (e ∙ kind-number-at b x g m h .value) ∙ kind-again (kindAt x g) (known-at (x .kinds) g (m .valid .kinds))
+    ap kindFrom (e ∙ kind-number-at b x g m h .value) ∙ kind-back (kindAt x g) (known-at (x .kinds) g (m .valid .kinds))
 
 pub kind-past : (x : Image) (g : ℕ) → length (x .kinds) ≤ g → Absent ≡ kindAt x g
 kind-past x g h = sym (List·getD-eq-default (x .kinds) Absent h)

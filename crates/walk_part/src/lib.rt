@@ -1,4 +1,4 @@
-// The stream of a signal in a block of an accepted image.
+// The stream of a signal in a block of an accepted image. Document 01, 'Block and image'. The contracts cite walk/specs/Walk.antt.
 use image::SignalDataOffset;
 use image::layout;
 use numbers::little_endian::get_u32;
@@ -30,7 +30,7 @@ fn offset_at(image: &[u8], at: usize, signal: u32) -> SignalDataOffset
 }
 
 // Where a block's data begin.
-fn data_start(image: &[u8], at: usize) -> usize
+fn data_place(image: &[u8], at: usize) -> usize
     requires { ⌜ Opened (now image) × SomeBlock at (now image) ⌝ }
     ensures { λ r. ⌜ ((n : ℕ) → BlockHere n at (now (image .entry)) → r ≡ dataPlace (imageIn (now (image .entry))) n) ⌝ }
 {
@@ -45,7 +45,7 @@ fn part_end(image: &[u8], at: usize, signal: u32) -> usize
     ensures { λ r. ⌜ ((n : ℕ) → BlockHere n at (now (image .entry)) → r ≡ partPlace (imageIn (now (image .entry))) n (suc signal)) ⌝ }
 {
     let signals = signal_count(image);
-    let start = data_start(image, at);
+    let start = data_place(image, at);
     let mut g = signal + 1;
     while g < signals {
         let offset = offset_at(image, at, g);
@@ -77,7 +77,7 @@ pub fn part_in(image: &[u8], at: usize, signal: u32) -> StreamPart
             top: 0,
         };
     }
-    let class_at = data_start(image, at) + (offset.0 as usize) - 1;
+    let class_at = data_place(image, at) + (offset.0 as usize) - 1;
     let to = part_end(image, at, signal);
     StreamPart {
         from: class_at + 1,

@@ -1,4 +1,4 @@
-// The combined table of an accepted image.
+// The combined table of an accepted image. Document 01, 'Loaded signal'. The contracts cite walk/specs/Walk.antt and loaded/specs/Reader.antt.
 use loaded::TableAnswer;
 use walk::block::first_block;
 use walk::block::last_time;

@@ -18,7 +18,7 @@ none c = sym (c .before .state-refusal .ensures) ∙ c .if1 .left
 
 -- a time is held
 timed : (c : tie.Else2) → let a = c .before .before .before .before .args in
-    admissionOf (a .state) (a .lent .records) (a .lent .times) (a .work) (a .lent .image) (a .signal .0) ≡ heard (a .state) (a .signal .0)
+    admissionOf (a .state) (a .lent .records) (a .lent .times) (a .work) (a .lent .image) (a .target .signal .0) ≡ heard (a .state) (a .target .signal .0)
 timed c = admitted-timed _ _ _ _ _ _ (none (c .before .before)) (c .if2 .left)
 
 state-refusal-requires : tie.Need-state-refusal-requires
@@ -38,12 +38,12 @@ returns-3 c = sym (timed (c .before) ∙ rw (c .if3 .taken) refl)
 returns-4 : tie.Need-returns-4
 returns-4 c =
     let a = c .before .before .before .before .before .before .before .before .args in
-    sym (timed (c .before .before .before .before) ∙ rw (c .before .before .before .if3 .left, le-leb (a .state .signals) (a .signal .0) (omega arith)) refl)
+    sym (timed (c .before .before .before .before) ∙ rw (c .before .before .before .if3 .left, le-leb (a .state .signals) (a .target .signal .0) (omega arith)) refl)
 
 returns-5 : tie.Need-returns-5
 returns-5 c =
     let a = c .before .before .before .before .before .before .before .before .args in
-    sym (timed (c .before .before .before .before) ∙ rw (c .before .before .before .if3 .left, lt-leb (a .state .signals) (a .signal .0) (omega arith)) refl)
+    sym (timed (c .before .before .before .before) ∙ rw (c .before .before .before .if3 .left, lt-leb (a .state .signals) (a .target .signal .0) (omega arith)) refl)
 
 pub admitted-spec : {M : Type 1} → statement M
 admitted-spec =

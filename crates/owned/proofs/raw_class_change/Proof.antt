@@ -43,7 +43,7 @@ use denote.Triple.Table.{entered, cited}
 use denote.Triple.Walked.{says, Stays, stay-none, stay-none-slice, gave-slice, walkOf, goes-none, goes-none-slice, goes-gave-slice, Walks, ends-at, walked, walk-meets}
 use denote.Exit.{yes}
 use Rattle.recording.specs.declared.SignalRecord.{SignalRecord}
-use Rattle.signal.specs.declared.SignalRef.{SignalRef}
+use Rattle.recording.specs.declared.Target.{Target}
 use Rattle.recording.specs.declared.Encoder.{Encoder}
 use Rattle.recording.specs.Calls.{replyOf}
 use Rattle.recording.specs.Memory.{memory, after}
@@ -52,8 +52,8 @@ use Rattle.recording.specs.declared.Outcome.{Outcome}
 use Rattle.records.proofs.Rows.{vals, made}
 use Rattle.recording.proofs.SignalRecord as T
 use Rattle.recording.proofs.SignalRecord.Laws as T′
-use Rattle.signal.proofs.SignalRef as S
-use Rattle.signal.proofs.SignalRef.Laws as S′
+use Rattle.recording.proofs.Target as Tg
+use Rattle.recording.proofs.Target.Laws as Tg′
 use Rattle.recording.proofs.Encoder as E
 use Rattle.recording.proofs.Encoder.Laws as E′
 use Rattle.recording.proofs.Outcome as O
@@ -81,7 +81,7 @@ use Rattle.owned.proofs.raw_class_change.Statement as stated
 use Rattle.owned.proofs.raw_class_change.Code as code
 
 abbrev stayed : Stays (main.ended .signature .params) (main.ended .kept)
-stayed = (stay-none (λ _. E.the-row) yes, (stay-none (λ _. (Array T.the-row 2)) yes, (stay-none-slice (0 ∷ []) tt (plain (λ _. u64)) yes, (gave-slice (1 ∷ []) tt (plain (λ _. u8)), (stay-none-slice (2 ∷ []) tt (plain (λ _. u8)) yes, (stay-none (λ _. S.the-row) yes, (stay-none (λ _. K.the-row) yes, (stay-none-slice (3 ∷ []) tt (plain (λ _. u8)) yes, tt))))))))
+stayed = (stay-none (λ _. E.the-row) yes, (stay-none (λ _. (Array T.the-row 2)) yes, (stay-none-slice (0 ∷ []) tt (plain (λ _. u64)) yes, (gave-slice (1 ∷ []) tt (plain (λ _. u8)), (stay-none-slice (2 ∷ []) tt (plain (λ _. u8)) yes, (stay-none (λ _. Tg.the-row) yes, (stay-none (λ _. K.the-row) yes, (stay-none-slice (3 ∷ []) tt (plain (λ _. u8)) yes, tt))))))))
 
 module _ {M : Type 1} (𝓤 : URA M) (H : Heap 𝓤) (A : Atoms 𝓤) (mem : Memory → SProp 𝓤) (run : Routine → Fun 𝓤) where
   abbrev Go : Contract 𝓤
@@ -90,7 +90,7 @@ module _ {M : Type 1} (𝓤 : URA M) (H : Heap 𝓤) (A : Atoms 𝓤) (mem : Mem
   abbrev Whole : Contract 𝓤
   Whole = tripleOf 𝓤 H A whole.signature (whole.spec 𝓤 H A mem run)
 
-module _ {M : Type 1} (𝓤 : URA M) (H : Heap 𝓤) (A : Atoms 𝓤) (W : Given 𝓤 H A) (mem : Memory → SProp 𝓤) (run : Routine → Fun 𝓤) (κt κw κm κb : Lft) (bounds : AllOutlive 4 (main.signature .outlives) (κt, (κw, (κm, (κb, tt))))) (qt qw qm qb : Share) (state : Encoder) (kept : List SignalRecord) (bt ot : ℕ) (γt : GName) (ts : List ℕ) (bw ow : ℕ) (γw : GName) (ws : List ℕ) (bm om : ℕ) (γm : GName) (ms : List ℕ) (signal : SignalRef) (claim : States) (bb ob : ℕ) (γb : GName) (bs : List ℕ) (state-is : Is E.the-row state (LL.val E.the-type E′.the-laws state ∷ [])) (kept-is : Is (Array T.the-row 2) kept (array-vals vals kept)) (roomt : Room u64 (length ts)) (roomw : Room u8 (length ws)) (roomm : Room u8 (length ms)) (signal-is : Is S.the-row signal (LL.val S.the-type S′.the-laws signal ∷ [])) (claim-is : Is K.the-row claim (EL.val K.the-type K′.the-laws claim ∷ [])) (roomb : Room u8 (length bs)) where
+module _ {M : Type 1} (𝓤 : URA M) (H : Heap 𝓤) (A : Atoms 𝓤) (W : Given 𝓤 H A) (mem : Memory → SProp 𝓤) (run : Routine → Fun 𝓤) (κt κw κm κb : Lft) (bounds : AllOutlive 4 (main.signature .outlives) (κt, (κw, (κm, (κb, tt))))) (qt qw qm qb : Share) (state : Encoder) (kept : List SignalRecord) (bt ot : ℕ) (γt : GName) (ts : List ℕ) (bw ow : ℕ) (γw : GName) (ws : List ℕ) (bm om : ℕ) (γm : GName) (ms : List ℕ) (target : Target) (claim : States) (bb ob : ℕ) (γb : GName) (bs : List ℕ) (state-is : Is E.the-row state (LL.val E.the-type E′.the-laws state ∷ [])) (kept-is : Is (Array T.the-row 2) kept (array-vals vals kept)) (roomt : Room u64 (length ts)) (roomw : Room u8 (length ws)) (roomm : Room u8 (length ms)) (target-is : Is Tg.the-row target (LL.val Tg.the-type Tg′.the-laws target ∷ [])) (claim-is : Is K.the-row claim (EL.val K.the-type K′.the-laws claim ∷ [])) (roomb : Room u8 (length bs)) where
   abbrev xt : GName → List ℕ → RefT (List ℕ)
   xt δ l = record { ptr = (bt, ot); name = δ; now = l }
 
@@ -116,10 +116,10 @@ module _ {M : Type 1} (𝓤 : URA M) (H : Heap 𝓤) (A : Atoms 𝓤) (W : Given
   vb = sliceVal (bb, ob) (length bs)
 
   abbrev at : Vals main.signature (κt, (κw, (κm, (κb, tt))))
-  at = (LL.val E.the-type E′.the-laws state ∷ [], (array-vals vals kept, (vt ∷ [], (vw ∷ [], (vm ∷ [], (LL.val S.the-type S′.the-laws signal ∷ [], (EL.val K.the-type K′.the-laws claim ∷ [], (vb ∷ [], tt))))))))
+  at = (LL.val E.the-type E′.the-laws state ∷ [], (array-vals vals kept, (vt ∷ [], (vw ∷ [], (vm ∷ [], (LL.val Tg.the-type Tg′.the-laws target ∷ [], (EL.val K.the-type K′.the-laws claim ∷ [], (vb ∷ [], tt))))))))
 
   abbrev Post : Val → SProp 𝓤
-  Post = walkOf 𝓤 H A main.ended stayed (main.clauses 𝓤 H A mem run) .post (((κt, (κw, (κm, (κb, tt)))), (qt, (qw, (qm, (qb, tt)))), bounds, (state, (kept, (xt γt ts, (xw γw ws, (xm γm ms, (signal, (claim, (xb γb bs, tt)))))))), at), tt)
+  Post = walkOf 𝓤 H A main.ended stayed (main.clauses 𝓤 H A mem run) .post (((κt, (κw, (κm, (κb, tt)))), (qt, (qw, (qm, (qb, tt)))), bounds, (state, (kept, (xt γt ts, (xw γw ws, (xm γm ms, (target, (claim, (xb γb bs, tt)))))))), at), tt)
 
   -- the array's slice, at a local's place
   abbrev xr : ℕ → GName → RefT (List SignalRecord)
@@ -128,36 +128,36 @@ module _ {M : Type 1} (𝓤 : URA M) (H : Heap 𝓤) (A : Atoms 𝓤) (W : Given
   abbrev vr : ℕ → Val
   vr l = sliceVal (l, 0) 2
 
-  abbrev passed : ℕ → GName → Encoder × (RefT (List SignalRecord) × (RefT (List ℕ) × (RefT (List ℕ) × (RefT (List ℕ) × (SignalRef × (States × (RefT (List ℕ) × Unit {0})))))))
-  passed l δ = (state, (xr l δ, (xt γt ts, (xw γw ws, (xm γm ms, (signal, (claim, (xb γb bs, tt))))))))
+  abbrev passed : ℕ → GName → Encoder × (RefT (List SignalRecord) × (RefT (List ℕ) × (RefT (List ℕ) × (RefT (List ℕ) × (Target × (States × (RefT (List ℕ) × Unit {0})))))))
+  passed l δ = (state, (xr l δ, (xt γt ts, (xw γw ws, (xm γm ms, (target, (claim, (xb γb bs, tt))))))))
 
   abbrev to-go : ℕ → ℕ → GName → Go 𝓤 H A mem run .Ghost
-  to-go l ν δ = (((ν ∷ [], (κt, (κw, (κm, (κb, tt))))), (fullShare, (qt, (qw, (qm, (qb, tt))))), tt, passed l δ, (LL.val E.the-type E′.the-laws state ∷ [], (vr l ∷ [], (vt ∷ [], (vw ∷ [], (vm ∷ [], (LL.val S.the-type S′.the-laws signal ∷ [], (EL.val K.the-type K′.the-laws claim ∷ [], (vb ∷ [], tt))))))))), tt)
+  to-go l ν δ = (((ν ∷ [], (κt, (κw, (κm, (κb, tt))))), (fullShare, (qt, (qw, (qm, (qb, tt))))), tt, passed l δ, (LL.val E.the-type E′.the-laws state ∷ [], (vr l ∷ [], (vt ∷ [], (vw ∷ [], (vm ∷ [], (LL.val Tg.the-type Tg′.the-laws target ∷ [], (EL.val K.the-type K′.the-laws claim ∷ [], (vb ∷ [], tt))))))))), tt)
 
   abbrev to-whole : Outcome → List SignalRecord → Val → Whole 𝓤 H A mem run .Ghost
   to-whole h zs v = ((tt, tt, tt, (h, (zs, tt)), (LL.val O.the-type O′.the-laws h ∷ [], (v ∷ [], tt))), tt)
 
-  exits : (k : Kept) (ws′ : List ℕ) → after (replyOf (k .outcome .answer)) (memory (k .outcome .state) (k .records) ts ws′ ms) ≡ changeOf (memory state kept ts ws ms) (signal .0) (raw-value (classNumber claim) bs)
+  exits : (k : Kept) (ws′ : List ℕ) → after (replyOf (k .outcome .answer)) (memory (k .outcome .state) (k .records) ts ws′ ms) ≡ changeOf (memory state kept ts ws ms) (target .signal .0) (raw-value (classNumber claim) bs)
       → length ws′ ≡ length ws → Is Kp.the-row k (LL.val Kp.the-type Kp′.the-laws k ∷ []) → ent 𝓤 (⋆ 𝓤 H A (‵ (flft κt qt) ∷ ‵ (flft κw qw) ∷ ‵ (flft κm qm) ∷ ‵ (flft κb qb) ∷ ‵ (ShrSlice (named 0) κt u64 .own (xt γt ts) (vt ∷ [])) ∷ ‵ (finally u8 γw ws′) ∷ ‵ (ShrSlice (named 2) κm u8 .own (xm γm ms) (vm ∷ [])) ∷ ‵ (ShrSlice (named 3) κb u8 .own (xb γb bs) (vb ∷ [])) ∷ [])) (Post (LL.val Kp.the-type Kp′.the-laws k))
   exits k ws′ e lenw is =
       qed W (‵ (flft κt qt) ∷ ‵ (flft κw qw) ∷ ‵ (flft κm qm) ∷ ‵ (flft κb qb) ∷ ‵ (ShrSlice (named 0) κt u64 .own (xt γt ts) (vt ∷ [])) ∷ ‵ (finally u8 γw ws′) ∷ ‵ (ShrSlice (named 2) κm u8 .own (xm γm ms) (vm ∷ [])) ∷ ‵ (ShrSlice (named 3) κb u8 .own (xb γb bs) (vb ∷ [])) ∷ []) ∵
-      suffices ! _ (ends-at 𝓤 H A main.ended stayed (main.clauses 𝓤 H A mem run) W (((κt, (κw, (κm, (κb, tt)))), (qt, (qw, (qm, (qb, tt)))), bounds, (state, (kept, (xt γt ts, (xw γw ws, (xm γm ms, (signal, (claim, (xb γb bs, tt)))))))), at), tt) (LL.val Kp.the-type Kp′.the-laws k) k (tt, (tt, (tt, (ws′, (tt, (tt, (tt, (tt, tt)))))))) (tt, (tt, (tt, (lenw, (tt, (tt, (tt, (tt, tt))))))))) $ says ! e $
+      suffices ! _ (ends-at 𝓤 H A main.ended stayed (main.clauses 𝓤 H A mem run) W (((κt, (κw, (κm, (κb, tt)))), (qt, (qw, (qm, (qb, tt)))), bounds, (state, (kept, (xt γt ts, (xw γw ws, (xm γm ms, (target, (claim, (xb γb bs, tt)))))))), at), tt) (LL.val Kp.the-type Kp′.the-laws k) k (tt, (tt, (tt, (ws′, (tt, (tt, (tt, (tt, tt)))))))) (tt, (tt, (tt, (lenw, (tt, (tt, (tt, (tt, tt))))))))) $ says ! e $
       nothing ! $ move ! (4 ∷ 0 ∷ []) $ join ! $ move ! (3 ∷ 0 ∷ []) $ join ! $ move ! (2 ∷ 0 ∷ []) $ join ! $ move ! (1 ∷ 0 ∷ []) $ join ! $ frame ! $ nothing ! $ move ! (4 ∷ 0 ∷ []) $ fjoin ! $
-      owned ! K.the-row (Is K.the-row) (EL.makes K.the-type K′.the-plain 𝓤 H A) claim _ claim-is $ fjoin ! $ owned ! S.the-row (Is S.the-row) (LL.makes S.the-type S′.the-plain 𝓤 H A) signal _ signal-is $ fjoin ! $
+      owned ! K.the-row (Is K.the-row) (EL.makes K.the-type K′.the-plain 𝓤 H A) claim _ claim-is $ fjoin ! $ owned ! Tg.the-row (Is Tg.the-row) (LL.makes Tg.the-type Tg′.the-plain 𝓤 H A) target _ target-is $ fjoin ! $
       move ! (3 ∷ 0 ∷ []) $ fjoin ! $ move ! (2 ∷ 0 ∷ []) $ fjoin ! $ move ! (1 ∷ 0 ∷ []) $ fjoin ! $
       owned ! (Array T.the-row 2) (Is (Array T.the-row 2)) (array-makes 𝓤 H A W T.the-row (made 𝓤 H A W) 2) kept _ kept-is $ fjoin ! $
       owned ! E.the-row (Is E.the-row) (LL.makes E.the-type E′.the-plain 𝓤 H A) state _ state-is $ fjoin ! $
       frame ! $ owned ! Kp.the-row (Is Kp.the-row) (LL.makes Kp.the-type Kp′.the-plain 𝓤 H A) k _ is $ done !
 
   walk : (𝓣 : Tables 𝓤 H) → Triple 𝓤 (𝓣 .C #encoder·raw·raw-class-change) (Go 𝓤 H A mem run) → Triple 𝓤 (𝓣 .C #owned·keep) (Whole 𝓤 H A mem run)
-      → ent 𝓤 (onEntry 𝓤 H A main.signature (κt, (κw, (κm, (κb, tt)))) (qt, (qw, (qm, (qb, tt)))) (state, (kept, (xt γt ts, (xw γw ws, (xm γm ms, (signal, (claim, (xb γb bs, tt)))))))) at) (WpFn 𝓤 H (𝓣 .C) (𝓣 .Λ) code.function (LL.val E.the-type E′.the-laws state ∷ only (array-vals vals kept) ∷ vt ∷ vw ∷ vm ∷ LL.val S.the-type S′.the-laws signal ∷ EL.val K.the-type K′.the-laws claim ∷ vb ∷ []) Post)
+      → ent 𝓤 (onEntry 𝓤 H A main.signature (κt, (κw, (κm, (κb, tt)))) (qt, (qw, (qm, (qb, tt)))) (state, (kept, (xt γt ts, (xw γw ws, (xm γm ms, (target, (claim, (xb γb bs, tt)))))))) at) (WpFn 𝓤 H (𝓣 .C) (𝓣 .Λ) code.function (LL.val E.the-type E′.the-laws state ∷ only (array-vals vals kept) ∷ vt ∷ vw ∷ vm ∷ LL.val Tg.the-type Tg′.the-laws target ∷ EL.val K.the-type K′.the-laws claim ∷ vb ∷ []) Post)
   walk 𝓣 kg kk =
-      qed W ((‵ (flft κt qt) ⊛ ‵ (flft κw qw) ⊛ ‵ (flft κm qm) ⊛ ‵ (flft κb qb) ⊛ ‵ ftrue) ∷ ‵ (owns (E.the-row ∷ (Array T.the-row 2) ∷ ShrSlice (named 0) κt u64 ∷ MutSlice (named 1) κw u8 ∷ ShrSlice (named 2) κm u8 ∷ S.the-row ∷ K.the-row ∷ ShrSlice (named 3) κb u8 ∷ []) (state, (kept, (xt γt ts, (xw γw ws, (xm γm ms, (signal, (claim, (xb γb bs, tt)))))))) at) ∷ []) ∵
+      qed W ((‵ (flft κt qt) ⊛ ‵ (flft κw qw) ⊛ ‵ (flft κm qm) ⊛ ‵ (flft κb qb) ⊛ ‵ ftrue) ∷ ‵ (owns (E.the-row ∷ (Array T.the-row 2) ∷ ShrSlice (named 0) κt u64 ∷ MutSlice (named 1) κw u8 ∷ ShrSlice (named 2) κm u8 ∷ Tg.the-row ∷ K.the-row ∷ ShrSlice (named 3) κb u8 ∷ []) (state, (kept, (xt γt ts, (xw γw ws, (xm γm ms, (target, (claim, (xb γb bs, tt)))))))) at) ∷ []) ∵
       split ! $ move ! (1 ∷ []) $ split ! $ move ! (1 ∷ []) $ split ! $ move ! (1 ∷ []) $ split ! $ move ! (1 ∷ []) $ drop ! $ move ! (4 ∷ []) $ fsplit ! $ drop ! $ fsplit ! $ drop ! $ fsplit ! $
       move ! (1 ∷ []) $ fsplit ! $ move ! (1 ∷ []) $ fsplit ! $ move ! (1 ∷ []) $ fsplit ! $ drop ! $ fsplit ! $ drop ! $ fsplit ! $ move ! (1 ∷ []) $ drop ! $ keep ! (3 ∷ 7 ∷ 2 ∷ 6 ∷ 1 ∷ 5 ∷ 0 ∷ 4 ∷ []) $
-      enter ! (𝓣 .C) (𝓣 .Λ) code.function (LL.val E.the-type E′.the-laws state ∷ only (array-vals vals kept) ∷ vt ∷ vw ∷ vm ∷ LL.val S.the-type S′.the-laws signal ∷ EL.val K.the-type K′.the-laws claim ∷ vb ∷ []) _ $
+      enter ! (𝓣 .C) (𝓣 .Λ) code.function (LL.val E.the-type E′.the-laws state ∷ only (array-vals vals kept) ∷ vt ∷ vw ∷ vm ∷ LL.val Tg.the-type Tg′.the-laws target ∷ EL.val K.the-type K′.the-laws claim ∷ vb ∷ []) _ $
       alloc1 ! (λ l₀. alloc1 ! (λ l₁. alloc1 ! (λ l₂. alloc1 ! (λ l₃. alloc1 ! (λ l₄. alloc1 ! (λ l₅. alloc1 ! (λ l₆. alloc1 ! (λ l₇. alloc1 ! (λ l₈. alloc1 ! (λ l₉. alloc1 ! (λ l₁₀. alloc1 ! (λ l₁₁. alloc1 ! (λ l₁₂. alloc1 ! (λ l₁₃. alloc1 ! (λ l₁₄. alloc1 ! (λ l₁₅. alloc0 ! $ params1 ! $
-      pass1 ! (init ! 28 refl (LL.lawful E.the-type E′.the-laws 𝓤 H A W .typed state _ state-is .0)) $ pass1 ! (init ! 26 refl (array-lawful 𝓤 H A W T.the-row (LL.lawful T.the-type T′.the-laws 𝓤 H A W) 2 .typed kept _ kept-is .0)) $ pass1 ! (init ! 24 refl (tt, (tt, (record { fits = roomt .0 }, tt)))) $ pass1 ! (init ! 22 refl (tt, (tt, (record { fits = roomw .0 }, tt)))) $ pass1 ! (init ! 20 refl (tt, (tt, (record { fits = roomm .0 }, tt)))) $ pass1 ! (init ! 18 refl (LL.lawful S.the-type S′.the-laws 𝓤 H A W .typed signal _ signal-is .0)) $ pass1 ! (init ! 16 refl (EL.lawful K.the-type K′.the-laws 𝓤 H A W tt .typed claim _ claim-is .0)) $ pass1 ! (init ! 14 refl (tt, (tt, (record { fits = roomb .0 }, tt)))) $ pass0 ! $
+      pass1 ! (init ! 28 refl (LL.lawful E.the-type E′.the-laws 𝓤 H A W .typed state _ state-is .0)) $ pass1 ! (init ! 26 refl (array-lawful 𝓤 H A W T.the-row (LL.lawful T.the-type T′.the-laws 𝓤 H A W) 2 .typed kept _ kept-is .0)) $ pass1 ! (init ! 24 refl (tt, (tt, (record { fits = roomt .0 }, tt)))) $ pass1 ! (init ! 22 refl (tt, (tt, (record { fits = roomw .0 }, tt)))) $ pass1 ! (init ! 20 refl (tt, (tt, (record { fits = roomm .0 }, tt)))) $ pass1 ! (init ! 18 refl (LL.lawful Tg.the-type Tg′.the-laws 𝓤 H A W .typed target _ target-is .0)) $ pass1 ! (init ! 16 refl (EL.lawful K.the-type K′.the-laws 𝓤 H A W tt .typed claim _ claim-is .0)) $ pass1 ! (init ! 14 refl (tt, (tt, (record { fits = roomb .0 }, tt)))) $ pass0 ! $
       assigns ! (of-opd ! (load ! (from ! (stop !)) (look ! 26 refl))) (from ! (stop !)) (init ! 12 refl (array-lawful 𝓤 H A W T.the-row (LL.lawful T.the-type T′.the-laws 𝓤 H A W) 2 .typed kept _ kept-is .0)) $
       assigns ! (addr ! (from ! (stop !))) (from ! (stop !)) (init ! 8 refl (tt, tt)) $
       assigns ! (agg ! (and-then ! (load ! (from ! (stop !)) (look ! 8 refl)) (and-then ! (lit ! tt) (no-more !)))) (from ! (stop !)) (init ! 6 refl (tt, (tt, (record { fits = lit< tt }, tt)))) $
@@ -174,14 +174,14 @@ module _ {M : Type 1} (𝓤 : URA M) (H : Heap 𝓤) (A : Atoms 𝓤) (W : Given
       use1 W (‵ (ShrSlice (named 3) κb u8 .own (xb γb bs) (vb ∷ [])) ⊛ ‵ (ShrSlice (named 3) κb u8 .own (xb γb bs) (vb ∷ []))) (shr-slice-copy 𝓤 H A W (named 3) κb u8 .twice (xb γb bs) (vb ∷ [])) $
       split ! $ nothing ! $ move ! (45 ∷ 0 ∷ []) $ join ! $ move ! (44 ∷ 0 ∷ []) $ join ! $ move ! (43 ∷ 0 ∷ []) $ join ! $ move ! (41 ∷ 0 ∷ []) $ join ! $ move ! (9 ∷ 0 ∷ []) $ join ! $ nothing ! $
       move ! (2 ∷ 0 ∷ []) $ fjoin ! $ owned ! K.the-row (Is K.the-row) (EL.makes K.the-type K′.the-plain 𝓤 H A) claim _ claim-is $ fjoin ! $
-      owned ! S.the-row (Is S.the-row) (LL.makes S.the-type S′.the-plain 𝓤 H A) signal _ signal-is $ fjoin ! $ move ! (3 ∷ 0 ∷ []) $ fjoin ! $ move ! (39 ∷ 0 ∷ []) $ fjoin ! $ move ! (4 ∷ 0 ∷ []) $
+      owned ! Tg.the-row (Is Tg.the-row) (LL.makes Tg.the-type Tg′.the-plain 𝓤 H A) target _ target-is $ fjoin ! $ move ! (3 ∷ 0 ∷ []) $ fjoin ! $ move ! (39 ∷ 0 ∷ []) $ fjoin ! $ move ! (4 ∷ 0 ∷ []) $
       fjoin ! $ move ! (5 ∷ 0 ∷ []) $ fjoin ! $ owned ! E.the-row (Is E.the-row) (LL.makes E.the-type E′.the-plain 𝓤 H A) state _ state-is $ fjoin ! $ move ! (1 ∷ 0 ∷ []) $ join ! $ nothing ! $
       move ! (1 ∷ 0 ∷ []) $ join ! $ use1 W (raw (Go 𝓤 H A mem run .pre (to-go l₉ ν δ))) (id⊢ 𝓤 _) $
       calls-at ! (fmOf 𝓤 H (W .laws) 𝓣) (Go 𝓤 H A mem run) kg (to-go l₉ ν δ) (and-then ! (load ! (from ! (stop !)) (look ! 32 refl)) (and-then ! (load ! (from ! (stop !)) (look ! 11 refl)) (and-then ! (load ! (from ! (stop !)) (look ! 28 refl)) (and-then ! (load ! (from ! (stop !)) (look ! 7 refl)) (and-then ! (load ! (from ! (stop !)) (look ! 24 refl)) (and-then ! (load ! (from ! (stop !)) (look ! 22 refl)) (and-then ! (load ! (from ! (stop !)) (look ! 20 refl)) (and-then ! (load ! (from ! (stop !)) (look ! 18 refl)) (no-more !))))))))) (λ u.
       use1 W (later (some (λ (h : Outcome). ((‵ (flft (ν ∷ []) fullShare) ⊛ ‵ (flft κt qt) ⊛ ‵ (flft κw qw) ⊛ ‵ (flft κm qm) ⊛ ‵ (flft κb qb) ⊛ ‵ ftrue) ⊛ ‵ (O.the-row .own h (u ∷ []))) ⊛ raw (ensured 𝓤 H A go.ended (go.clauses 𝓤 H A mem run) (ν ∷ [], (κt, (κw, (κm, (κb, tt))))) (passed l₉ δ) tt h)))) (id⊢ 𝓤 _) $ await ! tt $ pick ! (λ h.
       split ! $ move ! (1 ∷ []) $
-      use1 W (some (λ (zs : Unit {0} × (List SignalRecord × (Unit {0} × (List ℕ × (Unit {0} × (Unit {0} × (Unit {0} × (Unit {0} × Unit {0})))))))). ‵ (lasts go.ended (ν ∷ [], (κt, (κw, (κm, (κb, tt))))) (passed l₉ δ) zs) ⊛ raw (fact 𝓤 (after (replyOf (h .answer)) (memory (h .state) (zs .1 .0) ts (zs .1 .1 .1 .0) ms) ≡ changeOf (memory state kept ts ws ms) (signal .0) (raw-value (classNumber claim) bs))))) (id⊢ 𝓤 _) $ pick ! (λ zs.
-      split ! $ move ! (1 ∷ []) $ heard ! (after (replyOf (h .answer)) (memory (h .state) (zs .1 .0) ts (zs .1 .1 .1 .0) ms) ≡ changeOf (memory state kept ts ws ms) (signal .0) (raw-value (classNumber claim) bs)) (λ e.
+      use1 W (some (λ (zs : Unit {0} × (List SignalRecord × (Unit {0} × (List ℕ × (Unit {0} × (Unit {0} × (Unit {0} × (Unit {0} × Unit {0})))))))). ‵ (lasts go.ended (ν ∷ [], (κt, (κw, (κm, (κb, tt))))) (passed l₉ δ) zs) ⊛ raw (fact 𝓤 (after (replyOf (h .answer)) (memory (h .state) (zs .1 .0) ts (zs .1 .1 .1 .0) ms) ≡ changeOf (memory state kept ts ws ms) (target .signal .0) (raw-value (classNumber claim) bs))))) (id⊢ 𝓤 _) $ pick ! (λ zs.
+      split ! $ move ! (1 ∷ []) $ heard ! (after (replyOf (h .answer)) (memory (h .state) (zs .1 .0) ts (zs .1 .1 .1 .0) ms) ≡ changeOf (memory state kept ts ws ms) (target .signal .0) (raw-value (classNumber claim) bs)) (λ e.
       fsplit ! $ drop ! $ fsplit ! $ fsplit ! $ move ! (1 ∷ []) $ feqL ! (λ lr. move ! (1 ∷ []) $ fsplit ! $ drop ! $ fsplit ! $ fsplit ! $ move ! (1 ∷ []) $ feqL ! (λ lw. move ! (1 ∷ []) $ fsplit ! $
       drop ! $ fsplit ! $ drop ! $ fsplit ! $ drop ! $ fsplit ! $ drop ! $ drop ! $ move ! (2 ∷ []) $ split ! $ move ! (1 ∷ []) $ peeks ! O.the-row (Is O.the-row) (shows 𝓤 H A O.the-row) h (u ∷ []) (λ is.
       land ! (from ! (stop !)) (init ! 18 refl (LL.lawful O.the-type O′.the-laws 𝓤 H A W .typed h _ is .0)) $
@@ -217,14 +217,14 @@ module _ {M : Type 1} (𝓤 : URA M) (H : Heap 𝓤) (A : Atoms 𝓤) (W : Given
 module _ {M : Type 1} (𝓤 : URA M) (H : Heap 𝓤) (A : Atoms 𝓤) (W : Given 𝓤 H A) (mem : Memory → SProp 𝓤) (run : Routine → Fun 𝓤) (𝓣 : Tables 𝓤 H) (kg : Triple 𝓤 (𝓣 .C #encoder·raw·raw-class-change) (Go 𝓤 H A mem run)) (kk : Triple 𝓤 (𝓣 .C #owned·keep) (Whole 𝓤 H A mem run)) where
   walks : Walks 𝓤 H A main.ended stayed (WpFn 𝓤 H (𝓣 .C) (𝓣 .Λ) code.function) (main.clauses 𝓤 H A mem run)
   walks = walked 𝓤 H A main.ended stayed (main.clauses 𝓤 H A mem run) (WpFn 𝓤 H (𝓣 .C) (𝓣 .Λ) code.function)
-      (λ κs. (LL.vals E.the-type E′.the-laws, (array-vals vals, (slice-vals, (slice-vals, (slice-vals, (LL.vals S.the-type S′.the-laws, (EL.vals K.the-type K′.the-laws, (slice-vals, tt)))))))))
-      (λ κs. (LL.tells E.the-type E′.the-laws, (array-tells T.the-row vals (LL.tells T.the-type T′.the-laws) 2, (shr-slice-tells (named 0) (κs .0) u64, (mut-slice-tells (named 1) (κs .1 .0) u8, (shr-slice-tells (named 2) (κs .1 .1 .0) u8, (LL.tells S.the-type S′.the-laws, (EL.tells K.the-type K′.the-laws, (shr-slice-tells (named 3) (κs .1 .1 .1 .0) u8, tt)))))))))
+      (λ κs. (LL.vals E.the-type E′.the-laws, (array-vals vals, (slice-vals, (slice-vals, (slice-vals, (LL.vals Tg.the-type Tg′.the-laws, (EL.vals K.the-type K′.the-laws, (slice-vals, tt)))))))))
+      (λ κs. (LL.tells E.the-type E′.the-laws, (array-tells T.the-row vals (LL.tells T.the-type T′.the-laws) 2, (shr-slice-tells (named 0) (κs .0) u64, (mut-slice-tells (named 1) (κs .1 .0) u8, (shr-slice-tells (named 2) (κs .1 .1 .0) u8, (LL.tells Tg.the-type Tg′.the-laws, (EL.tells K.the-type K′.the-laws, (shr-slice-tells (named 3) (κs .1 .1 .1 .0) u8, tt)))))))))
       (λ κs qs bounds a g are. via 𝓤 _ (fst∗ 𝓤 _ (emp 𝓤))
       (walk 𝓤 H A W mem run (κs .0) (κs .1 .0) (κs .1 .1 .0) (κs .1 .1 .1 .0) bounds (qs .0) (qs .1 .0) (qs .1 .1 .0) (qs .1 .1 .1 .0) (a .0) (a .1 .0) (a .1 .1 .0 .ptr .0) (a .1 .1 .0 .ptr .1) (a .1 .1 .0 .name) (a .1 .1 .0 .now) (a .1 .1 .1 .0 .ptr .0) (a .1 .1 .1 .0 .ptr .1) (a .1 .1 .1 .0 .name) (a .1 .1 .1 .0 .now) (a .1 .1 .1 .1 .0 .ptr .0) (a .1 .1 .1 .1 .0 .ptr .1) (a .1 .1 .1 .1 .0 .name) (a .1 .1 .1 .1 .0 .now) (a .1 .1 .1 .1 .1 .0) (a .1 .1 .1 .1 .1 .1 .0) (a .1 .1 .1 .1 .1 .1 .1 .0 .ptr .0) (a .1 .1 .1 .1 .1 .1 .1 .0 .ptr .1) (a .1 .1 .1 .1 .1 .1 .1 .0 .name) (a .1 .1 .1 .1 .1 .1 .1 .0 .now) (are .0) (are .1 .0) (are .1 .1 .0 .0 .1) (are .1 .1 .1 .0 .0 .1) (are .1 .1 .1 .1 .0 .0 .1) (are .1 .1 .1 .1 .1 .0) (are .1 .1 .1 .1 .1 .1 .0) (are .1 .1 .1 .1 .1 .1 .1 .0 .0 .1) 𝓣 kg kk))
 
   meets : Meets 𝓤 H A main.signature (WpFn 𝓤 H (𝓣 .C) (𝓣 .Λ) code.function) (main.spec 𝓤 H A mem run)
   meets = walk-meets 𝓤 H A main.ended stayed W
-      (goes-none 𝓤 H A W 4 (λ _. E.the-row) yes (λ κs x f. refl), (goes-none 𝓤 H A W 4 (λ _. (Array T.the-row 2)) yes (λ κs x f. refl), (goes-none-slice 𝓤 H A W 4 (0 ∷ []) tt (plain (λ _. u64)) yes, (goes-gave-slice 𝓤 H A W 4 1 tt (plain (λ _. u8)), (goes-none-slice 𝓤 H A W 4 (2 ∷ []) tt (plain (λ _. u8)) yes, (goes-none 𝓤 H A W 4 (λ _. S.the-row) yes (λ κs x f. refl), (goes-none 𝓤 H A W 4 (λ _. K.the-row) yes (λ κs x f. refl), (goes-none-slice 𝓤 H A W 4 (3 ∷ []) tt (plain (λ _. u8)) yes, tt))))))))
+      (goes-none 𝓤 H A W 4 (λ _. E.the-row) yes (λ κs x f. refl), (goes-none 𝓤 H A W 4 (λ _. (Array T.the-row 2)) yes (λ κs x f. refl), (goes-none-slice 𝓤 H A W 4 (0 ∷ []) tt (plain (λ _. u64)) yes, (goes-gave-slice 𝓤 H A W 4 1 tt (plain (λ _. u8)), (goes-none-slice 𝓤 H A W 4 (2 ∷ []) tt (plain (λ _. u8)) yes, (goes-none 𝓤 H A W 4 (λ _. Tg.the-row) yes (λ κs x f. refl), (goes-none 𝓤 H A W 4 (λ _. K.the-row) yes (λ κs x f. refl), (goes-none-slice 𝓤 H A W 4 (3 ∷ []) tt (plain (λ _. u8)) yes, tt))))))))
       (main.clauses 𝓤 H A mem run) (WpFn 𝓤 H (𝓣 .C) (𝓣 .Λ) code.function) (WpFn-mono 𝓤 H (W .laws) 𝓣 code.function) walks
 
 pub raw-class-change-spec : {M : Type 1} → stated.statement M

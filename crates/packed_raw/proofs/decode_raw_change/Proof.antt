@@ -14,15 +14,15 @@ use Rattle.packed_raw.proofs.decode_raw_change.Tie as tie
 returns : tie.Need-returns
 returns c = let a = c .before .before .args in rw (raw-claim (a .width) (a .claim) (a .value .now) (omega arith)) refl
 
-claimed-states-requires : tie.Need-claimed-states-requires
-claimed-states-requires c κs = search needs
+from-class-requires : tie.Need-from-class-requires
+from-class-requires c κs = search needs
 
 bytes-required-requires : tie.Need-bytes-required-requires
 bytes-required-requires c κs = search needs
 
 -- the class that the code goes by is the claim, and so are its bytes
-claimed : (c : tie.After-claimed-states) → classNumber (c .claimed-states .result) ≡ c .before .before .before .args .claim
-claimed c = ap classNumber (c .claimed-states .ensures) ∙ number-states (c .before .before .before .args .claim) (omega arith)
+claimed : (c : tie.After-from-class) → classNumber (c .from-class .result) ≡ c .before .before .before .args .claim
+claimed c = ap classNumber (c .from-class .ensures) ∙ number-states (c .before .before .before .args .claim) (omega arith)
 
 counted : (c : tie.After-bytes-required) → c .bytes-required .result ≡ packedLength (c .before .before .before .before .args .width) (c .before .before .before .before .args .claim)
 counted c = c .bytes-required .ensures ∙ ap (packedLength (c .before .before .before .before .args .width)) (claimed (c .before))
@@ -52,7 +52,7 @@ decode-raw-change-spec =
     tie.close
     (tie.spec
     returns
-    claimed-states-requires
+    from-class-requires
     bytes-required-requires
     returns-2
     raw-part-requires

@@ -44,10 +44,10 @@ use Rattle.recording.proofs.SignalRecord as T
 use Rattle.recording.proofs.SignalRecord.Laws as T′
 use Rattle.signal.proofs.SignalRef as S
 use Rattle.signal.proofs.SignalRef.Laws as S′
-use Rattle.records.proofs.absent_record as none
-use Rattle.records.proofs.absent_record.Symbol as none-def
-use Rattle.records.proofs.absent_record.Symbol.{name as #records·absent-record}
-use Rattle.records.proofs.absent_record.Met as none-thm
+use Rattle.recording.proofs.absent_record as none
+use Rattle.recording.proofs.absent_record.Symbol as none-def
+use Rattle.recording.proofs.absent_record.Symbol.{name as #recording·absent-record}
+use Rattle.recording.proofs.absent_record.Met as none-thm
 use Rattle.records.proofs.find_record.Key.{name as #records·find-record}
 use Rattle.records.proofs.find_record as find
 use Rattle.records.proofs.find_record.Statement as stated
@@ -90,7 +90,7 @@ module _ {M : Type 1} (𝓤 : URA M) (H : Heap 𝓤) (A : Atoms 𝓤) (W : Given
       nothing ! $ move ! (1 ∷ 0 ∷ []) $ join ! $ frame ! $ nothing ! $ owned ! S.the-row (Is S.the-row) (LL.makes S.the-type S′.the-plain 𝓤 H A) signal _ signal-is $ fjoin ! $ move ! (1 ∷ 0 ∷ []) $
       fjoin ! $ frame ! $ owned ! T.the-row (Is T.the-row) (made 𝓤 H A W) h _ is $ done !
 
-  walk : (𝓣 : Tables 𝓤 H) → Triple 𝓤 (𝓣 .C #records·absent-record) (None 𝓤 H A mem run)
+  walk : (𝓣 : Tables 𝓤 H) → Triple 𝓤 (𝓣 .C #recording·absent-record) (None 𝓤 H A mem run)
       → ent 𝓤 (onEntry 𝓤 H A find.signature (κr, tt) (qr, tt) (xr γr ys, (signal, tt)) at) (WpFn 𝓤 H (𝓣 .C) (𝓣 .Λ) code.function (vr ∷ LL.val S.the-type S′.the-laws signal ∷ []) Post)
   walk 𝓣 known =
       qed W ((‵ (flft κr qr) ⊛ ‵ ftrue) ∷ ‵ (owns (ShrSlice (named 0) κr T.the-row ∷ S.the-row ∷ []) (xr γr ys, (signal, tt)) at) ∷ []) ∵
@@ -137,7 +137,7 @@ module _ {M : Type 1} (𝓤 : URA M) (H : Heap 𝓤) (A : Atoms 𝓤) (W : Given
       at-vals : {u : Val} → Is T.the-row blank (u ∷ []) → Is T.the-row blank (vals blank)
       at-vals is = subst (Is T.the-row blank) (LL.tells T.the-type T′.the-laws blank _ is) is
 
-module _ {M : Type 1} (𝓤 : URA M) (H : Heap 𝓤) (A : Atoms 𝓤) (W : Given 𝓤 H A) (mem : Memory → SProp 𝓤) (run : Routine → Fun 𝓤) (𝓣 : Tables 𝓤 H) (known : Triple 𝓤 (𝓣 .C #records·absent-record) (None 𝓤 H A mem run)) where
+module _ {M : Type 1} (𝓤 : URA M) (H : Heap 𝓤) (A : Atoms 𝓤) (W : Given 𝓤 H A) (mem : Memory → SProp 𝓤) (run : Routine → Fun 𝓤) (𝓣 : Tables 𝓤 H) (known : Triple 𝓤 (𝓣 .C #recording·absent-record) (None 𝓤 H A mem run)) where
   walks : Walks 𝓤 H A find.ended stayed (WpFn 𝓤 H (𝓣 .C) (𝓣 .Λ) code.function) (find.clauses 𝓤 H A mem run)
   walks = walked 𝓤 H A find.ended stayed (find.clauses 𝓤 H A mem run) (WpFn 𝓤 H (𝓣 .C) (𝓣 .Λ) code.function)
       (λ κs. (slice-vals, (LL.vals S.the-type S′.the-laws, tt)))
@@ -156,4 +156,4 @@ find-record-spec 𝓤 H 𝓜 𝓖 𝓡 =
     entered 𝓤 H (tripleOf 𝓤 H (𝓖 .A) find.signature (find.spec 𝓤 H (𝓖 .A) (𝓜 .mem) (𝓡 .run)))
     (tables 𝓤 H 𝓜 𝓡 code.env .C) (tables 𝓤 H 𝓜 𝓡 code.env .Λ) #records·find-record code.function (code.unfolded 𝓤 H 𝓜 𝓡)
     (meets 𝓤 H (𝓖 .A) (givenOf 𝓤 H 𝓜 𝓖) (𝓜 .mem) (𝓡 .run) (tablesOf 𝓤 H 𝓜 (tables 𝓤 H 𝓜 𝓡 code.env))
-    (cited 𝓤 H (None 𝓤 H (𝓖 .A) (𝓜 .mem) (𝓡 .run)) 𝓜 𝓡 code.env #records·absent-record none-def.routine code.calls-records·absent-record (none-thm.met 𝓤 H 𝓜 𝓖 𝓡)))
+    (cited 𝓤 H (None 𝓤 H (𝓖 .A) (𝓜 .mem) (𝓡 .run)) 𝓜 𝓡 code.env #recording·absent-record none-def.routine code.calls-recording·absent-record (none-thm.met 𝓤 H 𝓜 𝓖 𝓡)))

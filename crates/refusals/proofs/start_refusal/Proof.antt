@@ -4,6 +4,15 @@ use borrow.Author.Needs.{needs}
 use Rattle.refusals.proofs.start_refusal.Statement.{statement}
 use Rattle.refusals.proofs.start_refusal.Tie as tie
 
+cast-if3 : tie.Need-cast-if3
+cast-if3 c = search needs
+
+cast-if5 : tie.Need-cast-if5
+cast-if5 c = search needs
+
+cast-head-size : tie.Need-cast-head-size
+cast-head-size c = search needs
+
 head-size-requires : tie.Need-head-size-requires
 head-size-requires c κs = search needs
 
@@ -33,20 +42,23 @@ returns-6 c = search (tests, c .if6 .taken)
 
 returns-7 : tie.Need-returns-7
 unfolding startTests
-returns-7 c = search (tests, rw (c .before .before .head-size .ensures) at (c .if7 .taken), c .before .before .before .if6 .left)
+returns-7 c = search (tests, rw (c .before .before .head-size .ensures) at (c .if7 .taken), c .before .before .before .before .if6 .left)
 
 returns-8 : tie.Need-returns-8
 unfolding startTests
-returns-8 c = search (tests, rw (c .before .before .before .before .head-size .ensures) at (c .before .before .if7 .left), c .before .before .before .before .before .if6 .left)
+returns-8 c = search (tests, rw (c .before .before .before .before .head-size .ensures) at (c .before .before .if7 .left), c .before .before .before .before .before .before .if6 .left)
 
 returns-9 : tie.Need-returns-9
 unfolding startTests
-returns-9 c = search (tests, rw (c .before .before .before .before .head-size .ensures) at (c .before .before .if7 .left), c .before .before .before .before .before .if6 .left)
+returns-9 c = search (tests, rw (c .before .before .before .before .head-size .ensures) at (c .before .before .if7 .left), c .before .before .before .before .before .before .if6 .left)
 
 pub start-refusal-spec : {M : Type 1} → statement M
 start-refusal-spec =
     tie.close
     (tie.spec
+    cast-if3
+    cast-if5
+    cast-head-size
     head-size-requires
     returns
     returns-2

@@ -14,8 +14,8 @@ enum-known-kind c = search needs
 returns : tie.Need-returns
 returns c = raw-event _ _ _ _ (c .before .before .kind .given .1) (c .if1 .taken)
 
-claimed-states-requires : tie.Need-claimed-states-requires
-claimed-states-requires c κs = search needs
+from-class-requires : tie.Need-from-class-requires
+from-class-requires c κs = search needs
 
 decode-raw-change-requires : tie.Need-decode-raw-change-requires
 decode-raw-change-requires c κs = search needs
@@ -32,8 +32,8 @@ enum-told-2 c = search needs
 returns-2 : tie.Need-returns-2
 returns-2 c =
     c .decoded .ensures
-    ∙ ap (λ (x : BitVecChange). vectorAnswer x (classNumber (c .before .before .claimed-states .result))) (c .before .decode-raw-change .ensures)
-    ∙ raw-vector _ _ _ _ _ (c .before .before .before .before .before .kind .given .1) (c .before .before .before .if1 .left) (c .before .before .claimed-states .ensures)
+    ∙ ap (λ (x : BitVecChange). vectorAnswer x (classNumber (c .before .before .from-class .result))) (c .before .decode-raw-change .ensures)
+    ∙ raw-vector _ _ _ _ _ (c .before .before .before .before .before .kind .given .1) (c .before .before .before .if1 .left) (c .before .before .from-class .ensures)
 
 returns-3 : tie.Need-returns-3
 returns-3 c = raw-real _ _ _ (c .enum-told .given .1)
@@ -47,7 +47,7 @@ decode-raw-spec =
     (tie.spec
     enum-known-kind
     returns
-    claimed-states-requires
+    from-class-requires
     decode-raw-change-requires
     decoded-requires
     enum-told

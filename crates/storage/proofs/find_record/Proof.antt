@@ -14,10 +14,15 @@ use Rattle.storage.proofs.find_record.Tie as tie
 place-of-requires : tie.Need-place-of-requires
 place-of-requires c κs = search needs
 
+absent-record-requires : tie.Need-absent-record-requires
+absent-record-requires c κs = search needs
+
 returns : tie.Need-returns
 returns c =
-    let a = c .before .before .before .args in
-    (sym (records-past (a .records .now) (a .signal .0) (recordOf Absent 0 Two) (omega (arith, c .if1 .taken, c .before .place-of .ensures))), storable-absent)
+    let b = c .before .before in
+    let a = b .before .before .args in
+    let e = c .absent-record .ensures in
+    (e ∙ sym (records-past (a .records .now) (a .signal .0) (recordOf Absent 0 Two) (omega (arith, c .before .if1 .taken, b .place-of .ensures))), rw e storable-absent)
 
 mul-record-from : tie.Need-mul-record-from
 mul-record-from c = search needs
@@ -43,6 +48,7 @@ find-record-spec =
     tie.close
     (tie.spec
     place-of-requires
+    absent-record-requires
     returns
     mul-record-from
     shared-slice-read-record-from

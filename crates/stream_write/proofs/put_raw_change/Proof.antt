@@ -13,12 +13,12 @@ use Rattle.stream_write.proofs.put_raw_change.Tie as tie
 said : (c : tie.After-put-vector-arg) →
     let p = c .before .before .before .before .before .before .before .before .before .before in let a = p .args in
     VectorSaid (a .kind) (a .d) (raw (a .claim) (a .value .now)) (c .before .before .before .before .before .before .change2 .given .0 .0)
-    (Packed (c .before .before .before .claimed-states .result)) (c .before .before .before .before .width .result) (c .before .raw-part .result .now)
+    (Packed (c .before .before .before .from-class .result)) (c .before .before .before .before .width .result) (c .before .raw-part .result .now)
 said c =
     let p = c .before .before .before .before .before .before .before .before .before .before in
     let a = p .args in
     packed-written (a .kind) (a .d) (a .claim) (a .value .now) (a .change) _ _ _ _ (p .pre .0 .1) (c .before .before .before .before .before .before .change2 .given .1)
-    (c .before .before .before .claimed-states .ensures) (c .before .before .before .before .width .ensures)
+    (c .before .before .before .from-class .ensures) (c .before .before .before .before .width .ensures)
     (part-said (a .value .now) _ _ _ (c .before .before .bytes-required .ensures) (c .before .raw-part .ensures))
 
 enum-known-change : tie.Need-enum-known-change
@@ -36,8 +36,8 @@ enum-known-change-2 c = search needs
 width-requires : tie.Need-width-requires
 width-requires c κs = search needs
 
-claimed-states-requires : tie.Need-claimed-states-requires
-claimed-states-requires c κs = search needs
+from-class-requires : tie.Need-from-class-requires
+from-class-requires c κs = search needs
 
 bytes-required-requires : tie.Need-bytes-required-requires
 bytes-required-requires c κs = search needs
@@ -47,8 +47,8 @@ raw-part-requires c κs =
     let p = c .before .before .before .before .before .before .before .before in
     let a = p .args in
     let r = raw-claimed (a .kind) (a .d) (a .claim) (a .value .now) (a .change) _ (p .pre .0 .1) (c .before .before .before .before .change2 .given .1) in
-    enough-said (widthOf (a .kind)) (a .claim) (a .value .now) _ (c .before .claimed-states .result) _ (r .claimed) (r .enough) (c .before .before .width .ensures)
-    (c .before .claimed-states .ensures) (c .bytes-required .ensures)
+    enough-said (widthOf (a .kind)) (a .claim) (a .value .now) _ (c .before .from-class .result) _ (r .claimed) (r .enough) (c .before .before .width .ensures)
+    (c .before .from-class .ensures) (c .bytes-required .ensures)
 
 put-vector-requires : tie.Need-put-vector-requires
 put-vector-requires c κs =
@@ -98,7 +98,7 @@ put-raw-change-spec =
     put-bit-requires
     enum-known-change-2
     width-requires
-    claimed-states-requires
+    from-class-requires
     bytes-required-requires
     raw-part-requires
     put-vector-requires

@@ -22,8 +22,8 @@ abbrev μ-loop : tie.MeasureT-loop
 signal-count-requires : tie.Need-signal-count-requires Inv-loop μ-loop
 signal-count-requires c κs = search needs
 
-data-start-requires : tie.Need-data-start-requires Inv-loop μ-loop
-data-start-requires c κs = search needs
+data-place-requires : tie.Need-data-place-requires Inv-loop μ-loop
+data-place-requires c κs = search needs
 
 add-g : tie.Need-add-g Inv-loop μ-loop
 add-g c = omega (arith, c .before .signal-count .ensures, c .before .before .before .pre .1 .1, c .before .before .before .fits .signal)
@@ -48,7 +48,7 @@ add-result c =
     omega (
       arith,
       start-most (p .0) (s .args .at) (s .args .image .now) (λ j. c .before .before .before .before .before .before .before .before .shared-slice-known .given j .fits) (s .pre .0) (p .1),
-      c .before .before .before .before .before .before .data-start .ensures (p .0) (p .1),
+      c .before .before .before .before .before .before .data-place .ensures (p .0) (p .1),
     )
 
 sub-result : tie.Need-sub-result Inv-loop μ-loop
@@ -59,7 +59,7 @@ returns c n h =
     let s = c .before .before .before .before .before .before .before .before .before in
     let l = c .before .before .before .before .before .loop in
     place-here (imageIn (s .args .image .now)) n (l .g) (c .before .before .before .offset-at .result .0) _
-    (c .before .before .before .before .before .before .data-start .ensures n h) (c .before .before .before .offset-at .ensures n h) (c .before .if1 .taken)
+    (c .before .before .before .before .before .before .data-place .ensures n h) (c .before .before .before .offset-at .ensures n h) (c .before .if1 .taken)
     ∙ l .inv .2 n h
 
 add-g-2 : tie.Need-add-g-2 Inv-loop μ-loop
@@ -99,7 +99,7 @@ part-end-spec =
     Inv-loop
     μ-loop
     signal-count-requires
-    data-start-requires
+    data-place-requires
     add-g
     loop-holds
     offset-at-requires

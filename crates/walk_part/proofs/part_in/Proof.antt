@@ -16,14 +16,14 @@ below c = omega (arith, c .if1 .left, c .before .signal-count .ensures)
 found : (c : tie.After-part-end) (n : ℕ)
     → BlockHere n (c .before .before .before .before .before .before .before .before .before .args .at)
     (c .before .before .before .before .before .before .before .before .before .args .image .now)
-    → PartHere (c .before .before .data-start .result + c .before .before .before .before .before .offset-at .result .0 - 1 + 1) (c .part-end .result)
+    → PartHere (c .before .before .data-place .result + c .before .before .before .before .before .offset-at .result .0 - 1 + 1) (c .part-end .result)
     (getD (c .before .before .before .before .before .before .before .before .before .args .image .now)
-    (c .before .before .data-start .result + c .before .before .before .before .before .offset-at .result .0 - 1) 0)
+    (c .before .before .data-place .result + c .before .before .before .before .before .offset-at .result .0 - 1) 0)
     n (c .before .before .before .before .before .before .before .before .before .args .signal) (c .before .before .before .before .before .before .before .before .before .args .image .now)
 found c n h =
     let s = c .before .before .before .before .before .before .before .before .before in
     let o = c .before .before .before .before .before .offset-at in
-    let d = c .before .before .data-start in
+    let d = c .before .before .data-place in
     found-at n (s .args .at) (s .args .signal) (o .result .0) (d .result) (c .part-end .result) (s .args .image .now)
     (λ j. c .before .before .before .before .before .before .before .before .shared-slice-known .given j .fits) (s .pre .0) h
     (below (c .before .before .before .before .before .before)) (d .ensures n h) (o .ensures n h) (c .before .before .before .if2 .left) (c .part-end .ensures n h)
@@ -45,8 +45,8 @@ returns-2 c n h =
     let o = c .before .before .offset-at in
     found-zero n (s .args .signal) (o .result .0) (s .args .image .now) (below (c .before .before .before)) (o .ensures n h) (c .if2 .taken)
 
-data-start-requires : tie.Need-data-start-requires
-data-start-requires c κs = search needs
+data-place-requires : tie.Need-data-place-requires
+data-place-requires c κs = search needs
 
 cast-class-at : tie.Need-cast-class-at
 cast-class-at c = search needs
@@ -58,7 +58,7 @@ add-class-at c =
     omega (
       arith,
       start-most (p .0) (s .args .at) (s .args .image .now) (λ j. c .before .before .before .before .before .before .before .shared-slice-known .given j .fits) (s .pre .0) (p .1),
-      c .before .data-start .ensures (p .0) (p .1),
+      c .before .data-place .ensures (p .0) (p .1),
     )
 
 sub-class-at : tie.Need-sub-class-at
@@ -86,7 +86,7 @@ part-in-spec =
     returns
     offset-at-requires
     returns-2
-    data-start-requires
+    data-place-requires
     cast-class-at
     add-class-at
     sub-class-at

@@ -42,7 +42,7 @@ use denote.Triple.Table.{entered, cited}
 use denote.Triple.Walked.{says, Stays, stay-none, stay-none-slice, gave-slice, walkOf, goes-none, goes-none-slice, goes-gave-slice, Walks, ends-at, walked, walk-meets}
 use denote.Exit.{yes}
 use Rattle.recording.specs.declared.SignalRecord.{SignalRecord}
-use Rattle.signal.specs.declared.SignalRef.{SignalRef}
+use Rattle.recording.specs.declared.Target.{Target}
 use Rattle.recording.specs.declared.Encoder.{Encoder}
 use Rattle.recording.specs.Calls.{replyOf}
 use Rattle.recording.specs.Memory.{memory, after}
@@ -58,6 +58,8 @@ use Rattle.records.proofs.Shared.{LentShared, lends-shared, shared-back}
 use Rattle.encoder.proofs.ChangeLaws.{change-made}
 use Rattle.recording.proofs.SignalRecord as T
 use Rattle.recording.proofs.SignalRecord.Laws as T′
+use Rattle.recording.proofs.Target as Tg
+use Rattle.recording.proofs.Target.Laws as Tg′
 use Rattle.signal.proofs.SignalRef as S
 use Rattle.signal.proofs.SignalRef.Laws as S′
 use Rattle.recording.proofs.Encoder as E
@@ -88,7 +90,7 @@ use Rattle.encoder.proofs.changes.value_change.Statement as stated
 use Rattle.encoder.proofs.changes.value_change.Code as code
 
 abbrev stayed : Stays (main.ended .signature .params) (main.ended .kept)
-stayed = (stay-none (λ _. E.the-row) yes, (gave-slice (0 ∷ []) tt (plain (λ _. T.the-row)), (stay-none-slice (1 ∷ []) tt (plain (λ _. u64)) yes, (gave-slice (2 ∷ []) tt (plain (λ _. u8)), (stay-none-slice (3 ∷ []) tt (plain (λ _. u8)) yes, (stay-none (λ _. S.the-row) yes, (stay-none (λ _. N.the-row) yes, (stay-none-slice (4 ∷ []) tt (plain (λ _. u8)) yes, tt))))))))
+stayed = (stay-none (λ _. E.the-row) yes, (gave-slice (0 ∷ []) tt (plain (λ _. T.the-row)), (stay-none-slice (1 ∷ []) tt (plain (λ _. u64)) yes, (gave-slice (2 ∷ []) tt (plain (λ _. u8)), (stay-none-slice (3 ∷ []) tt (plain (λ _. u8)) yes, (stay-none (λ _. Tg.the-row) yes, (stay-none (λ _. N.the-row) yes, (stay-none-slice (4 ∷ []) tt (plain (λ _. u8)) yes, tt))))))))
 
 module _ {M : Type 1} (𝓤 : URA M) (H : Heap 𝓤) (A : Atoms 𝓤) (mem : Memory → SProp 𝓤) (run : Routine → Fun 𝓤) where
   abbrev Find : Contract 𝓤
@@ -100,7 +102,7 @@ module _ {M : Type 1} (𝓤 : URA M) (H : Heap 𝓤) (A : Atoms 𝓤) (mem : Mem
   abbrev Put : Contract 𝓤
   Put = tripleOf 𝓤 H A put.signature (put.spec 𝓤 H A mem run)
 
-module _ {M : Type 1} (𝓤 : URA M) (H : Heap 𝓤) (A : Atoms 𝓤) (W : Given 𝓤 H A) (mem : Memory → SProp 𝓤) (run : Routine → Fun 𝓤) (κr κt κw κm κb : Lft) (bounds : AllOutlive 5 (main.signature .outlives) (κr, (κt, (κw, (κm, (κb, tt)))))) (qr qt qw qm qb : Share) (state : Encoder) (br or : ℕ) (γr : GName) (ys : List SignalRecord) (bt ot : ℕ) (γt : GName) (ts : List ℕ) (bw ow : ℕ) (γw : GName) (ws : List ℕ) (bm om : ℕ) (γm : GName) (ms : List ℕ) (signal : SignalRef) (value : Value) (bb ob : ℕ) (γb : GName) (bs : List ℕ) (state-is : Is E.the-row state (LL.val E.the-type E′.the-laws state ∷ [])) (roomr : Room T.the-row (length ys)) (roomt : Room u64 (length ts)) (roomw : Room u8 (length ws)) (roomm : Room u8 (length ms)) (signal-is : Is S.the-row signal (LL.val S.the-type S′.the-laws signal ∷ [])) (value-is : Is N.the-row value (EL.val N.the-type N′.the-laws value ∷ [])) (roomb : Room u8 (length bs)) where
+module _ {M : Type 1} (𝓤 : URA M) (H : Heap 𝓤) (A : Atoms 𝓤) (W : Given 𝓤 H A) (mem : Memory → SProp 𝓤) (run : Routine → Fun 𝓤) (κr κt κw κm κb : Lft) (bounds : AllOutlive 5 (main.signature .outlives) (κr, (κt, (κw, (κm, (κb, tt)))))) (qr qt qw qm qb : Share) (state : Encoder) (br or : ℕ) (γr : GName) (ys : List SignalRecord) (bt ot : ℕ) (γt : GName) (ts : List ℕ) (bw ow : ℕ) (γw : GName) (ws : List ℕ) (bm om : ℕ) (γm : GName) (ms : List ℕ) (target : Target) (value : Value) (bb ob : ℕ) (γb : GName) (bs : List ℕ) (state-is : Is E.the-row state (LL.val E.the-type E′.the-laws state ∷ [])) (roomr : Room T.the-row (length ys)) (roomt : Room u64 (length ts)) (roomw : Room u8 (length ws)) (roomm : Room u8 (length ms)) (target-is : Is Tg.the-row target (LL.val Tg.the-type Tg′.the-laws target ∷ [])) (value-is : Is N.the-row value (EL.val N.the-type N′.the-laws value ∷ [])) (roomb : Room u8 (length bs)) where
   abbrev xr : GName → List SignalRecord → RefT (List SignalRecord)
   xr δ l = record { ptr = (br, or); name = δ; now = l }
 
@@ -132,13 +134,13 @@ module _ {M : Type 1} (𝓤 : URA M) (H : Heap 𝓤) (A : Atoms 𝓤) (W : Given
   vb = sliceVal (bb, ob) (length bs)
 
   abbrev at : Vals main.signature (κr, (κt, (κw, (κm, (κb, tt)))))
-  at = (LL.val E.the-type E′.the-laws state ∷ [], (vr ∷ [], (vt ∷ [], (vw ∷ [], (vm ∷ [], (LL.val S.the-type S′.the-laws signal ∷ [], (EL.val N.the-type N′.the-laws value ∷ [], (vb ∷ [], tt))))))))
+  at = (LL.val E.the-type E′.the-laws state ∷ [], (vr ∷ [], (vt ∷ [], (vw ∷ [], (vm ∷ [], (LL.val Tg.the-type Tg′.the-laws target ∷ [], (EL.val N.the-type N′.the-laws value ∷ [], (vb ∷ [], tt))))))))
 
   abbrev Post : Val → SProp 𝓤
-  Post = walkOf 𝓤 H A main.ended stayed (main.clauses 𝓤 H A mem run) .post (((κr, (κt, (κw, (κm, (κb, tt))))), (qr, (qt, (qw, (qm, (qb, tt))))), bounds, (state, (xr γr ys, (xt γt ts, (xw γw ws, (xm γm ms, (signal, (value, (xb γb bs, tt)))))))), at), tt)
+  Post = walkOf 𝓤 H A main.ended stayed (main.clauses 𝓤 H A mem run) .post (((κr, (κt, (κw, (κm, (κb, tt))))), (qr, (qt, (qw, (qm, (qb, tt))))), bounds, (state, (xr γr ys, (xt γt ts, (xw γw ws, (xm γm ms, (target, (value, (xb γb bs, tt)))))))), at), tt)
 
   abbrev old : SignalRecord
-  old = getD ys (signal .0) blank
+  old = getD ys (target .signal .0) blank
 
   abbrev lent : Lengths
   lent = record { records = length ys; times = length ts; image = length ms }
@@ -147,35 +149,35 @@ module _ {M : Type 1} (𝓤 : URA M) (H : Heap 𝓤) (A : Atoms 𝓤) (W : Given
   outcome h = record { answer = h .answer; state = h .state }
 
   abbrev to-find : ℕ → GName → Find 𝓤 H A mem run .Ghost
-  to-find ν δ = (((ν ∷ [], tt), (fullShare, tt), tt, (xr δ ys, (signal, tt)), (vr ∷ [], (LL.vals S.the-type S′.the-laws signal, tt))), tt)
+  to-find ν δ = (((ν ∷ [], tt), (fullShare, tt), tt, (xr δ ys, (target .signal, tt)), (vr ∷ [], (LL.vals S.the-type S′.the-laws (target .signal), tt))), tt)
 
   abbrev to-work : Work 𝓤 H A mem run .Ghost
-  to-work = (((κb, (κw, tt)), (qb, (qw, tt)), tt, (state, (old, (lent, (signal, (value, (xb γb bs, (xw γw ws, tt))))))), (LL.val E.the-type E′.the-laws state ∷ [], (vals old, (LL.val G.the-type G′.the-laws lent ∷ [], (LL.val S.the-type S′.the-laws signal ∷ [], (EL.val N.the-type N′.the-laws value ∷ [], (vb ∷ [], (vw ∷ [], tt)))))))), tt)
+  to-work = (((κb, (κw, tt)), (qb, (qw, tt)), tt, (state, (old, (lent, (target, (value, (xb γb bs, (xw γw ws, tt))))))), (LL.val E.the-type E′.the-laws state ∷ [], (vals old, (LL.val G.the-type G′.the-laws lent ∷ [], (LL.val Tg.the-type Tg′.the-laws target ∷ [], (EL.val N.the-type N′.the-laws value ∷ [], (vb ∷ [], (vw ∷ [], tt)))))))), tt)
 
   abbrev to-put : SignalRecord → Put 𝓤 H A mem run .Ghost
-  to-put k = (((κr, tt), (qr, tt), tt, (xr γr ys, (signal, (k, tt))), (vr ∷ [], (LL.val S.the-type S′.the-laws signal ∷ [], (vals k, tt)))), tt)
+  to-put k = (((κr, tt), (qr, tt), tt, (xr γr ys, (target .signal, (k, tt))), (vr ∷ [], (LL.val S.the-type S′.the-laws (target .signal) ∷ [], (vals k, tt)))), tt)
 
-  exits : (h : Changed) (zs : List SignalRecord) (cs : List ℕ) → after (replyOf (h .answer)) (memory (h .state) zs ts cs ms) ≡ changeOf (memory state ys ts ws ms) (signal .0) (says-in value bs)
+  exits : (h : Changed) (zs : List SignalRecord) (cs : List ℕ) → after (replyOf (h .answer)) (memory (h .state) zs ts cs ms) ≡ changeOf (memory state ys ts ws ms) (target .signal .0) (says-in value bs)
       → length zs ≡ length ys → length cs ≡ length ws → Is O.the-row (outcome h) (LL.val O.the-type O′.the-laws (outcome h) ∷ []) → ent 𝓤 (⋆ 𝓤 H A (‵ (flft κr qr) ∷ ‵ (flft κt qt) ∷ ‵ (flft κw qw) ∷ ‵ (flft κm qm) ∷ ‵ (flft κb qb) ∷ ‵ (finally T.the-row γr zs) ∷ ‵ (ShrSlice (named 1) κt u64 .own (xt γt ts) (vt ∷ [])) ∷ ‵ (finally u8 γw cs) ∷ ‵ (ShrSlice (named 3) κm u8 .own (xm γm ms) (vm ∷ [])) ∷ ‵ (ShrSlice (named 4) κb u8 .own (xb γb bs) (vb ∷ [])) ∷ [])) (Post (LL.val O.the-type O′.the-laws (outcome h)))
   exits h zs cs e lenr lenw is =
       qed W (‵ (flft κr qr) ∷ ‵ (flft κt qt) ∷ ‵ (flft κw qw) ∷ ‵ (flft κm qm) ∷ ‵ (flft κb qb) ∷ ‵ (finally T.the-row γr zs) ∷ ‵ (ShrSlice (named 1) κt u64 .own (xt γt ts) (vt ∷ [])) ∷ ‵ (finally u8 γw cs) ∷ ‵ (ShrSlice (named 3) κm u8 .own (xm γm ms) (vm ∷ [])) ∷ ‵ (ShrSlice (named 4) κb u8 .own (xb γb bs) (vb ∷ [])) ∷ []) ∵
-      suffices ! _ (ends-at 𝓤 H A main.ended stayed (main.clauses 𝓤 H A mem run) W (((κr, (κt, (κw, (κm, (κb, tt))))), (qr, (qt, (qw, (qm, (qb, tt))))), bounds, (state, (xr γr ys, (xt γt ts, (xw γw ws, (xm γm ms, (signal, (value, (xb γb bs, tt)))))))), at), tt) (LL.val O.the-type O′.the-laws (outcome h)) (outcome h) (tt, (zs, (tt, (cs, (tt, (tt, (tt, (tt, tt)))))))) (tt, (lenr, (tt, (lenw, (tt, (tt, (tt, (tt, tt))))))))) $ says ! e $
+      suffices ! _ (ends-at 𝓤 H A main.ended stayed (main.clauses 𝓤 H A mem run) W (((κr, (κt, (κw, (κm, (κb, tt))))), (qr, (qt, (qw, (qm, (qb, tt))))), bounds, (state, (xr γr ys, (xt γt ts, (xw γw ws, (xm γm ms, (target, (value, (xb γb bs, tt)))))))), at), tt) (LL.val O.the-type O′.the-laws (outcome h)) (outcome h) (tt, (zs, (tt, (cs, (tt, (tt, (tt, (tt, tt)))))))) (tt, (lenr, (tt, (lenw, (tt, (tt, (tt, (tt, tt))))))))) $ says ! e $
       nothing ! $ move ! (5 ∷ 0 ∷ []) $ join ! $ move ! (4 ∷ 0 ∷ []) $ join ! $ move ! (3 ∷ 0 ∷ []) $ join ! $ move ! (2 ∷ 0 ∷ []) $ join ! $ move ! (1 ∷ 0 ∷ []) $ join ! $ frame ! $ nothing ! $
       move ! (5 ∷ 0 ∷ []) $ fjoin ! $ owned ! N.the-row (Is N.the-row) (EL.makes N.the-type N′.the-plain 𝓤 H A) value _ value-is $ fjoin ! $
-      owned ! S.the-row (Is S.the-row) (LL.makes S.the-type S′.the-plain 𝓤 H A) signal _ signal-is $ fjoin ! $ move ! (4 ∷ 0 ∷ []) $ fjoin ! $ move ! (3 ∷ 0 ∷ []) $ fjoin ! $ move ! (2 ∷ 0 ∷ []) $ fjoin ! $
+      owned ! Tg.the-row (Is Tg.the-row) (LL.makes Tg.the-type Tg′.the-plain 𝓤 H A) target _ target-is $ fjoin ! $ move ! (4 ∷ 0 ∷ []) $ fjoin ! $ move ! (3 ∷ 0 ∷ []) $ fjoin ! $ move ! (2 ∷ 0 ∷ []) $ fjoin ! $
       move ! (1 ∷ 0 ∷ []) $ fjoin ! $ owned ! E.the-row (Is E.the-row) (LL.makes E.the-type E′.the-plain 𝓤 H A) state _ state-is $ fjoin ! $
       frame ! $ owned ! O.the-row (Is O.the-row) (LL.makes O.the-type O′.the-plain 𝓤 H A) (outcome h) _ is $ done !
 
   walk : (𝓣 : Tables 𝓤 H) → Triple 𝓤 (𝓣 .C #records·find-record) (Find 𝓤 H A mem run) → Triple 𝓤 (𝓣 .C #change·change-found) (Work 𝓤 H A mem run) → Triple 𝓤 (𝓣 .C #records·put-record) (Put 𝓤 H A mem run)
-      → ent 𝓤 (onEntry 𝓤 H A main.signature (κr, (κt, (κw, (κm, (κb, tt))))) (qr, (qt, (qw, (qm, (qb, tt))))) (state, (xr γr ys, (xt γt ts, (xw γw ws, (xm γm ms, (signal, (value, (xb γb bs, tt)))))))) at) (WpFn 𝓤 H (𝓣 .C) (𝓣 .Λ) code.function (LL.val E.the-type E′.the-laws state ∷ vr ∷ vt ∷ vw ∷ vm ∷ LL.val S.the-type S′.the-laws signal ∷ EL.val N.the-type N′.the-laws value ∷ vb ∷ []) Post)
+      → ent 𝓤 (onEntry 𝓤 H A main.signature (κr, (κt, (κw, (κm, (κb, tt))))) (qr, (qt, (qw, (qm, (qb, tt))))) (state, (xr γr ys, (xt γt ts, (xw γw ws, (xm γm ms, (target, (value, (xb γb bs, tt)))))))) at) (WpFn 𝓤 H (𝓣 .C) (𝓣 .Λ) code.function (LL.val E.the-type E′.the-laws state ∷ vr ∷ vt ∷ vw ∷ vm ∷ LL.val Tg.the-type Tg′.the-laws target ∷ EL.val N.the-type N′.the-laws value ∷ vb ∷ []) Post)
   walk 𝓣 kf kw kp =
-      qed W ((‵ (flft κr qr) ⊛ ‵ (flft κt qt) ⊛ ‵ (flft κw qw) ⊛ ‵ (flft κm qm) ⊛ ‵ (flft κb qb) ⊛ ‵ ftrue) ∷ ‵ (owns (E.the-row ∷ MutSlice (named 0) κr T.the-row ∷ ShrSlice (named 1) κt u64 ∷ MutSlice (named 2) κw u8 ∷ ShrSlice (named 3) κm u8 ∷ S.the-row ∷ N.the-row ∷ ShrSlice (named 4) κb u8 ∷ []) (state, (xr γr ys, (xt γt ts, (xw γw ws, (xm γm ms, (signal, (value, (xb γb bs, tt)))))))) at) ∷ []) ∵
+      qed W ((‵ (flft κr qr) ⊛ ‵ (flft κt qt) ⊛ ‵ (flft κw qw) ⊛ ‵ (flft κm qm) ⊛ ‵ (flft κb qb) ⊛ ‵ ftrue) ∷ ‵ (owns (E.the-row ∷ MutSlice (named 0) κr T.the-row ∷ ShrSlice (named 1) κt u64 ∷ MutSlice (named 2) κw u8 ∷ ShrSlice (named 3) κm u8 ∷ Tg.the-row ∷ N.the-row ∷ ShrSlice (named 4) κb u8 ∷ []) (state, (xr γr ys, (xt γt ts, (xw γw ws, (xm γm ms, (target, (value, (xb γb bs, tt)))))))) at) ∷ []) ∵
       split ! $ move ! (1 ∷ []) $ split ! $ move ! (1 ∷ []) $ split ! $ move ! (1 ∷ []) $ split ! $ move ! (1 ∷ []) $ split ! $ move ! (1 ∷ []) $ drop ! $ move ! (5 ∷ []) $ fsplit ! $ drop ! $ fsplit ! $
       move ! (1 ∷ []) $ fsplit ! $ move ! (1 ∷ []) $ fsplit ! $ move ! (1 ∷ []) $ fsplit ! $ move ! (1 ∷ []) $ fsplit ! $ drop ! $ fsplit ! $ drop ! $ fsplit ! $ move ! (1 ∷ []) $ drop ! $
       keep ! (4 ∷ 9 ∷ 3 ∷ 8 ∷ 2 ∷ 7 ∷ 1 ∷ 6 ∷ 0 ∷ 5 ∷ []) $
-      enter ! (𝓣 .C) (𝓣 .Λ) code.function (LL.val E.the-type E′.the-laws state ∷ vr ∷ vt ∷ vw ∷ vm ∷ LL.val S.the-type S′.the-laws signal ∷ EL.val N.the-type N′.the-laws value ∷ vb ∷ []) _ $
+      enter ! (𝓣 .C) (𝓣 .Λ) code.function (LL.val E.the-type E′.the-laws state ∷ vr ∷ vt ∷ vw ∷ vm ∷ LL.val Tg.the-type Tg′.the-laws target ∷ EL.val N.the-type N′.the-laws value ∷ vb ∷ []) _ $
       alloc1 ! (λ l₀. alloc1 ! (λ l₁. alloc1 ! (λ l₂. alloc1 ! (λ l₃. alloc1 ! (λ l₄. alloc1 ! (λ l₅. alloc1 ! (λ l₆. alloc1 ! (λ l₇. alloc1 ! (λ l₈. alloc1 ! (λ l₉. alloc1 ! (λ l₁₀. alloc1 ! (λ l₁₁. alloc1 ! (λ l₁₂. alloc1 ! (λ l₁₃. alloc1 ! (λ l₁₄. alloc1 ! (λ l₁₅. alloc1 ! (λ l₁₆. alloc1 ! (λ l₁₇. alloc1 ! (λ l₁₈. alloc1 ! (λ l₁₉. alloc1 ! (λ l₂₀. alloc1 ! (λ l₂₁. alloc0 ! $ params1 ! $
-      pass1 ! (init ! 40 refl (LL.lawful E.the-type E′.the-laws 𝓤 H A W .typed state _ state-is .0)) $ pass1 ! (init ! 38 refl (tt, (tt, (record { fits = roomr .0 }, tt)))) $ pass1 ! (init ! 36 refl (tt, (tt, (record { fits = roomt .0 }, tt)))) $ pass1 ! (init ! 34 refl (tt, (tt, (record { fits = roomw .0 }, tt)))) $ pass1 ! (init ! 32 refl (tt, (tt, (record { fits = roomm .0 }, tt)))) $ pass1 ! (init ! 30 refl (LL.lawful S.the-type S′.the-laws 𝓤 H A W .typed signal _ signal-is .0)) $ pass1 ! (init ! 28 refl (EL.lawful N.the-type N′.the-laws 𝓤 H A W tt .typed value _ value-is .0)) $ pass1 ! (init ! 26 refl (tt, (tt, (record { fits = roomb .0 }, tt)))) $ pass0 ! $
+      pass1 ! (init ! 40 refl (LL.lawful E.the-type E′.the-laws 𝓤 H A W .typed state _ state-is .0)) $ pass1 ! (init ! 38 refl (tt, (tt, (record { fits = roomr .0 }, tt)))) $ pass1 ! (init ! 36 refl (tt, (tt, (record { fits = roomt .0 }, tt)))) $ pass1 ! (init ! 34 refl (tt, (tt, (record { fits = roomw .0 }, tt)))) $ pass1 ! (init ! 32 refl (tt, (tt, (record { fits = roomm .0 }, tt)))) $ pass1 ! (init ! 30 refl (LL.lawful Tg.the-type Tg′.the-laws 𝓤 H A W .typed target _ target-is .0)) $ pass1 ! (init ! 28 refl (EL.lawful N.the-type N′.the-laws 𝓤 H A W tt .typed value _ value-is .0)) $ pass1 ! (init ! 26 refl (tt, (tt, (record { fits = roomb .0 }, tt)))) $ pass0 ! $
       assigns ! (of-opd ! (load ! (from ! (fld ! refl (stop !))) (look-in ! 38 (sub ! 1 refl (whole !))))) (from ! (stop !)) (init ! 18 refl (tt, record { fits = roomr .0 })) $
       assigns ! (of-opd ! (load ! (from ! (fld ! refl (stop !))) (look-in ! 36 (sub ! 1 refl (whole !))))) (from ! (stop !)) (init ! 16 refl (tt, record { fits = roomt .0 })) $
       assigns ! (of-opd ! (load ! (from ! (fld ! refl (stop !))) (look-in ! 32 (sub ! 1 refl (whole !))))) (from ! (stop !)) (init ! 14 refl (tt, record { fits = roomm .0 })) $
@@ -184,11 +186,11 @@ module _ {M : Type 1} (𝓤 : URA M) (H : Heap 𝓤) (A : Atoms 𝓤) (W : Given
       assigns ! (agg ! (and-then ! (load ! (from ! (stop !)) (look ! 12 refl)) (and-then ! (load ! (from ! (fld ! refl (stop !))) (look-in ! 38 (sub ! 1 refl (whole !)))) (no-more !)))) (from ! (stop !)) (init ! 10 refl (tt, (tt, (record { fits = roomr .0 }, tt)))) $
       lft-new ! tt (λ ν. move ! (45 ∷ 46 ∷ []) $
       use2 W (later (some (λ (δ : GName). ‵ (ShrSlice (named 0) (ν ∷ []) T.the-row .own (xr δ ys) (vr ∷ [])) ⊛ ‵ (LentShared T.the-row κr (ν ∷ []) qr γr br or ys)))) (lends-shared T.the-row κr (ν ∷ []) qr γr br or ys 𝓤 H A W (named 0) (named 0)) $ await ! tt $ pick ! (λ δ.
-      split ! $ nothing ! $ move ! (3 ∷ 0 ∷ []) $ join ! $ nothing ! $ owned ! S.the-row (Is S.the-row) (LL.makes S.the-type S′.the-plain 𝓤 H A) signal _ signal-is $ fjoin ! $ move ! (2 ∷ 0 ∷ []) $
+      split ! $ nothing ! $ move ! (3 ∷ 0 ∷ []) $ join ! $ nothing ! $ owned ! S.the-row (Is S.the-row) (LL.makes S.the-type S′.the-plain 𝓤 H A) (target .signal) _ signal-is $ fjoin ! $ move ! (2 ∷ 0 ∷ []) $
       fjoin ! $ move ! (1 ∷ 0 ∷ []) $ join ! $ nothing ! $ move ! (1 ∷ 0 ∷ []) $ join ! $ use1 W (raw (Find 𝓤 H A mem run .pre (to-find ν δ))) (id⊢ 𝓤 _) $
-      calls-at ! (fmOf 𝓤 H (W .laws) 𝓣) (Find 𝓤 H A mem run) kf (to-find ν δ) (and-then ! (load ! (from ! (stop !)) (look ! 12 refl)) (and-then ! (load ! (from ! (stop !)) (look ! 32 refl)) (no-more !))) (λ u.
-      use1 W (later (some (λ (k : SignalRecord). ((‵ (flft (ν ∷ []) fullShare) ⊛ ‵ ftrue) ⊛ ‵ (T.the-row .own k (u ∷ []))) ⊛ raw (ensured 𝓤 H A find.ended (find.clauses 𝓤 H A mem run) (ν ∷ [], tt) (xr δ ys, (signal, tt)) tt k)))) (id⊢ 𝓤 _) $ await ! tt $ pick ! (λ k.
-      split ! $ move ! (1 ∷ []) $ use1 W (raw (fact 𝓤 (k ≡ old))) (exE 𝓤 _ (λ ws. snd∗ 𝓤 (sem 𝓤 H A (lasts find.ended (ν ∷ [], tt) (xr δ ys, (signal, tt)) ws)) (fact 𝓤 (k ≡ old)))) $
+      calls-at ! (fmOf 𝓤 H (W .laws) 𝓣) (Find 𝓤 H A mem run) kf (to-find ν δ) (and-then ! (load ! (from ! (stop !)) (look ! 12 refl)) (and-then ! (load ! (from ! (fld ! refl (stop !))) (look-in ! 32 (sub ! 0 refl (whole !)))) (no-more !))) (λ u.
+      use1 W (later (some (λ (k : SignalRecord). ((‵ (flft (ν ∷ []) fullShare) ⊛ ‵ ftrue) ⊛ ‵ (T.the-row .own k (u ∷ []))) ⊛ raw (ensured 𝓤 H A find.ended (find.clauses 𝓤 H A mem run) (ν ∷ [], tt) (xr δ ys, (target .signal, tt)) tt k)))) (id⊢ 𝓤 _) $ await ! tt $ pick ! (λ k.
+      split ! $ move ! (1 ∷ []) $ use1 W (raw (fact 𝓤 (k ≡ old))) (exE 𝓤 _ (λ ws. snd∗ 𝓤 (sem 𝓤 H A (lasts find.ended (ν ∷ [], tt) (xr δ ys, (target .signal, tt)) ws)) (fact 𝓤 (k ≡ old)))) $
       heard ! (k ≡ old) (λ e₁. split ! $ rewrite ! 1 (λ (z : SignalRecord). ‵ (T.the-row .own z (u ∷ []))) e₁ refl $ move ! (1 ∷ []) $
       peeks ! T.the-row (Is T.the-row) (shows 𝓤 H A T.the-row) old (u ∷ []) (λ is₁. land ! (from ! (stop !)) (init ! 25 refl (LL.lawful T.the-type T′.the-laws 𝓤 H A W .typed old _ is₁ .0)) $
       rewrite ! 25 (λ (z : Val). ‵ (fat fullShare T′.mir l₁₀ 0 z)) (ap only (LL.tells T.the-type T′.the-laws old _ is₁)) refl $ drop ! $ split ! $ move ! (1 ∷ []) $ drop ! $ lft-end ! tt $
@@ -198,16 +200,16 @@ module _ {M : Type 1} (𝓤 : URA M) (H : Heap 𝓤) (A : Atoms 𝓤) (W : Given
       move ! (52 ∷ []) $
       use1 W (‵ (ShrSlice (named 4) κb u8 .own (xb γb bs) (vb ∷ [])) ⊛ ‵ (ShrSlice (named 4) κb u8 .own (xb γb bs) (vb ∷ []))) (shr-slice-copy 𝓤 H A W (named 4) κb u8 .twice (xb γb bs) (vb ∷ [])) $
       split ! $ nothing ! $ move ! (52 ∷ 0 ∷ []) $ join ! $ move ! (54 ∷ 0 ∷ []) $ join ! $ nothing ! $ move ! (52 ∷ 0 ∷ []) $ fjoin ! $ move ! (2 ∷ 0 ∷ []) $ fjoin ! $
-      owned ! N.the-row (Is N.the-row) (EL.makes N.the-type N′.the-plain 𝓤 H A) value _ value-is $ fjoin ! $ owned ! S.the-row (Is S.the-row) (LL.makes S.the-type S′.the-plain 𝓤 H A) signal _ signal-is $
+      owned ! N.the-row (Is N.the-row) (EL.makes N.the-type N′.the-plain 𝓤 H A) value _ value-is $ fjoin ! $ owned ! Tg.the-row (Is Tg.the-row) (LL.makes Tg.the-type Tg′.the-plain 𝓤 H A) target _ target-is $
       fjoin ! $ owned ! G.the-row (Is G.the-row) (LL.makes G.the-type G′.the-plain 𝓤 H A) lent _ lent-is $ fjoin ! $ owned ! T.the-row (Is T.the-row) (made 𝓤 H A W) old _ (at-vals is₁) $ fjoin ! $
       owned ! E.the-row (Is E.the-row) (LL.makes E.the-type E′.the-plain 𝓤 H A) state _ state-is $ fjoin ! $ move ! (1 ∷ 0 ∷ []) $ join ! $ nothing ! $ move ! (1 ∷ 0 ∷ []) $ join ! $
       use1 W (raw (Work 𝓤 H A mem run .pre to-work)) (id⊢ 𝓤 _) $
       calls-at ! (fmOf 𝓤 H (W .laws) 𝓣) (Work 𝓤 H A mem run) kw to-work (and-then ! (load ! (from ! (stop !)) (look ! 44 refl)) (and-then ! (load ! (from ! (stop !)) (look ! 26 refl)) (and-then ! (load ! (from ! (stop !)) (look ! 28 refl)) (and-then ! (load ! (from ! (stop !)) (look ! 34 refl)) (and-then ! (load ! (from ! (stop !)) (look ! 32 refl)) (and-then ! (load ! (from ! (stop !)) (look ! 30 refl)) (and-then ! (load ! (from ! (stop !)) (look ! 10 refl)) (no-more !)))))))) (λ w.
-      use1 W (later (some (λ (h : Changed). ((‵ (flft κb qb) ⊛ ‵ (flft κw qw) ⊛ ‵ ftrue) ⊛ ‵ (Ch.the-row .own h (w ∷ []))) ⊛ raw (ensured 𝓤 H A work.ended (work.clauses 𝓤 H A mem run) (κb, (κw, tt)) (state, (old, (lent, (signal, (value, (xb γb bs, (xw γw ws, tt))))))) tt h)))) (id⊢ 𝓤 _) $ await ! tt $ pick ! (λ h.
+      use1 W (later (some (λ (h : Changed). ((‵ (flft κb qb) ⊛ ‵ (flft κw qw) ⊛ ‵ ftrue) ⊛ ‵ (Ch.the-row .own h (w ∷ []))) ⊛ raw (ensured 𝓤 H A work.ended (work.clauses 𝓤 H A mem run) (κb, (κw, tt)) (state, (old, (lent, (target, (value, (xb γb bs, (xw γw ws, tt))))))) tt h)))) (id⊢ 𝓤 _) $ await ! tt $ pick ! (λ h.
       split ! $ move ! (1 ∷ []) $
-      use1 W (some (λ (cs : Unit {0} × (Unit {0} × (Unit {0} × (Unit {0} × (Unit {0} × (Unit {0} × (List ℕ × Unit {0}))))))). ‵ (lasts work.ended (κb, (κw, tt)) (state, (old, (lent, (signal, (value, (xb γb bs, (xw γw ws, tt))))))) cs) ⊛ raw (fact 𝓤 (found (replyOf (h .answer)) (h .state) (h .kept) (cs .1 .1 .1 .1 .1 .1 .0) ≡ foundOf state old (length ys) (length ts) (length ms) ws (signal .0) (says-in value bs))))) (id⊢ 𝓤 _) $ pick ! (λ cs.
+      use1 W (some (λ (cs : Unit {0} × (Unit {0} × (Unit {0} × (Unit {0} × (Unit {0} × (Unit {0} × (List ℕ × Unit {0}))))))). ‵ (lasts work.ended (κb, (κw, tt)) (state, (old, (lent, (target, (value, (xb γb bs, (xw γw ws, tt))))))) cs) ⊛ raw (fact 𝓤 (found (replyOf (h .answer)) (h .state) (h .kept) (cs .1 .1 .1 .1 .1 .1 .0) ≡ foundOf state old (length ys) (length ts) (length ms) ws (target .signal .0) (says-in value bs))))) (id⊢ 𝓤 _) $ pick ! (λ cs.
       split ! $ move ! (1 ∷ []) $
-      heard ! (found (replyOf (h .answer)) (h .state) (h .kept) (cs .1 .1 .1 .1 .1 .1 .0) ≡ foundOf state old (length ys) (length ts) (length ms) ws (signal .0) (says-in value bs)) (λ e₂. fsplit ! $
+      heard ! (found (replyOf (h .answer)) (h .state) (h .kept) (cs .1 .1 .1 .1 .1 .1 .0) ≡ foundOf state old (length ys) (length ts) (length ms) ws (target .signal .0) (says-in value bs)) (λ e₂. fsplit ! $
       drop ! $ fsplit ! $ drop ! $ fsplit ! $ drop ! $ fsplit ! $ drop ! $ fsplit ! $ drop ! $ fsplit ! $ drop ! $ fsplit ! $ fsplit ! $ move ! (1 ∷ []) $ feqL ! (λ lw. move ! (1 ∷ []) $ drop ! $
       move ! (1 ∷ []) $ split ! $ move ! (1 ∷ []) $ peeks ! Ch.the-row (Is Ch.the-row) (shows 𝓤 H A Ch.the-row) h (w ∷ []) (λ is₂.
       land ! (from ! (stop !)) (init ! 26 refl (LL.lawful Ch.the-type Ch′.the-laws 𝓤 H A W .typed h _ is₂ .0)) $
@@ -215,13 +217,13 @@ module _ {M : Type 1} (𝓤 : URA M) (H : Heap 𝓤) (A : Atoms 𝓤) (W : Given
       assigns ! (addr ! (from ! (fld ! refl (hop ! (look-in ! 44 (sub ! 0 refl (whole !))) (stop !))))) (from ! (stop !)) (init ! 8 refl (tt, tt)) $
       assigns ! (agg ! (and-then ! (load ! (from ! (stop !)) (look ! 8 refl)) (and-then ! (load ! (from ! (fld ! refl (stop !))) (look-in ! 44 (sub ! 1 refl (whole !)))) (no-more !)))) (from ! (stop !)) (init ! 6 refl (tt, (tt, (record { fits = roomr .0 }, tt)))) $
       nothing ! $ move ! (6 ∷ 0 ∷ []) $ join ! $ nothing ! $ owned ! T.the-row (Is T.the-row) (made 𝓤 H A W) (h .kept) _ (LL.owed Ch.the-type Ch′.the-laws h _ is₂ .1 .1 .0) $ fjoin ! $
-      owned ! S.the-row (Is S.the-row) (LL.makes S.the-type S′.the-plain 𝓤 H A) signal _ signal-is $ fjoin ! $ move ! (6 ∷ 0 ∷ []) $ fjoin ! $ move ! (1 ∷ 0 ∷ []) $ join ! $ nothing ! $
+      owned ! S.the-row (Is S.the-row) (LL.makes S.the-type S′.the-plain 𝓤 H A) (target .signal) _ signal-is $ fjoin ! $ move ! (6 ∷ 0 ∷ []) $ fjoin ! $ move ! (1 ∷ 0 ∷ []) $ join ! $ nothing ! $
       move ! (1 ∷ 0 ∷ []) $ join ! $ use1 W (raw (Put 𝓤 H A mem run .pre (to-put (h .kept)))) (id⊢ 𝓤 _) $
-      calls-at ! (fmOf 𝓤 H (W .laws) 𝓣) (Put 𝓤 H A mem run) kp (to-put (h .kept)) (and-then ! (load ! (from ! (stop !)) (look ! 5 refl)) (and-then ! (load ! (from ! (stop !)) (look ! 35 refl)) (and-then ! (load ! (from ! (fld ! refl (stop !))) (look-in ! 25 (sub ! 2 refl (whole !)))) (no-more !)))) (λ w₃.
-      use1 W (later (some (λ (x : Unit {0}). ((‵ (flft κr qr) ⊛ ‵ ftrue) ⊛ ‵ (unit .own x (w₃ ∷ []))) ⊛ raw (ensured 𝓤 H A put.ended (put.clauses 𝓤 H A mem run) (κr, tt) (xr γr ys, (signal, (h .kept, tt))) tt x)))) (id⊢ 𝓤 _) $ await ! tt $ pick ! (λ x.
+      calls-at ! (fmOf 𝓤 H (W .laws) 𝓣) (Put 𝓤 H A mem run) kp (to-put (h .kept)) (and-then ! (load ! (from ! (stop !)) (look ! 5 refl)) (and-then ! (load ! (from ! (fld ! refl (stop !))) (look-in ! 35 (sub ! 0 refl (whole !)))) (and-then ! (load ! (from ! (fld ! refl (stop !))) (look-in ! 25 (sub ! 2 refl (whole !)))) (no-more !)))) (λ w₃.
+      use1 W (later (some (λ (x : Unit {0}). ((‵ (flft κr qr) ⊛ ‵ ftrue) ⊛ ‵ (unit .own x (w₃ ∷ []))) ⊛ raw (ensured 𝓤 H A put.ended (put.clauses 𝓤 H A mem run) (κr, tt) (xr γr ys, (target .signal, (h .kept, tt))) tt x)))) (id⊢ 𝓤 _) $ await ! tt $ pick ! (λ x.
       split ! $ move ! (1 ∷ []) $
-      use1 W (some (λ (zs : List SignalRecord × (Unit {0} × (Unit {0} × Unit {0}))). ‵ (lasts put.ended (κr, tt) (xr γr ys, (signal, (h .kept, tt))) zs) ⊛ raw (fact 𝓤 (zs .0 ≡ set ys (signal .0) (h .kept))))) (id⊢ 𝓤 _) $ pick ! (λ zs.
-      split ! $ move ! (1 ∷ []) $ heard ! (zs .0 ≡ set ys (signal .0) (h .kept)) (λ e₃. fsplit ! $ fsplit ! $ move ! (1 ∷ []) $ feqL ! (λ lr. move ! (1 ∷ []) $ fsplit ! $ drop ! $ fsplit ! $ drop ! $
+      use1 W (some (λ (zs : List SignalRecord × (Unit {0} × (Unit {0} × Unit {0}))). ‵ (lasts put.ended (κr, tt) (xr γr ys, (target .signal, (h .kept, tt))) zs) ⊛ raw (fact 𝓤 (zs .0 ≡ set ys (target .signal .0) (h .kept))))) (id⊢ 𝓤 _) $ pick ! (λ zs.
+      split ! $ move ! (1 ∷ []) $ heard ! (zs .0 ≡ set ys (target .signal .0) (h .kept)) (λ e₃. fsplit ! $ fsplit ! $ move ! (1 ∷ []) $ feqL ! (λ lr. move ! (1 ∷ []) $ fsplit ! $ drop ! $ fsplit ! $ drop ! $
       drop ! $ move ! (1 ∷ []) $ split ! $ move ! (1 ∷ []) $ peeks ! unit (Is unit) (shows 𝓤 H A unit) x (w₃ ∷ []) (λ is₃.
       land ! (from ! (stop !)) (init ! 11 refl (nothing-lawful 𝓤 H A W .typed x _ is₃ .0)) $ drop ! $ split ! $ move ! (1 ∷ []) $ drop ! $
       assigns ! (agg ! (and-then ! (load ! (from ! (fld ! refl (stop !))) (look-in ! 26 (sub ! 0 refl (whole !)))) (and-then ! (load ! (from ! (fld ! refl (stop !))) (look-in ! 26 (sub ! 1 refl (whole !)))) (no-more !)))) (from ! (stop !)) (init ! 48 refl (LL.lawful O.the-type O′.the-laws 𝓤 H A W .typed (outcome h) _ (made-is h is₂) .0)) $
@@ -232,8 +234,11 @@ module _ {M : Type 1} (𝓤 : URA M) (H : Heap 𝓤) (A : Atoms 𝓤) (W : Given
       move ! (28 ∷ 29 ∷ []) $ free1 ! $ move ! (26 ∷ 27 ∷ []) $ free1 ! $ move ! (24 ∷ 25 ∷ []) $ free1 ! $ move ! (22 ∷ 23 ∷ []) $ free1 ! $ move ! (20 ∷ 21 ∷ []) $ free1 ! $
       move ! (18 ∷ 19 ∷ []) $ free1 ! $ move ! (16 ∷ 17 ∷ []) $ free1 ! $ move ! (14 ∷ 15 ∷ []) $ free1 ! $ move ! (12 ∷ 13 ∷ []) $ free1 ! $ move ! (10 ∷ 11 ∷ []) $ free1 ! $
       move ! (8 ∷ 9 ∷ []) $ free1 ! $ move ! (6 ∷ 7 ∷ []) $ free1 ! $ free0 ! $ keep ! (0 ∷ 7 ∷ 2 ∷ 9 ∷ 3 ∷ 1 ∷ 6 ∷ 4 ∷ 8 ∷ 5 ∷ []) $
-      by ! (exits h (zs .0) (cs .1 .1 .1 .1 .1 .1 .0) (change-made (h .answer) state (h .state) old (h .kept) ys (zs .0) ts ws (cs .1 .1 .1 .1 .1 .1 .0) ms (signal .0) (says-in value bs) refl e₂ e₃) lr lw (made-is h is₂))))))))))))))))))))))))))))))))))))))))))
+      by ! (exits h (zs .0) (cs .1 .1 .1 .1 .1 .1 .0) (change-made (h .answer) state (h .state) old (h .kept) ys (zs .0) ts ws (cs .1 .1 .1 .1 .1 .1 .0) ms (target .signal .0) (says-in value bs) refl e₂ e₃) lr lw (made-is h is₂))))))))))))))))))))))))))))))))))))))))))
     where
+      signal-is : Is S.the-row (target .signal) (LL.val S.the-type S′.the-laws (target .signal) ∷ [])
+      signal-is = LL.owed Tg.the-type Tg′.the-laws target _ target-is .0
+
       lent-is : Is G.the-row lent (LL.vals G.the-type G′.the-laws lent)
       lent-is = LL.owes G.the-type G′.the-laws lent ((refl, roomr .0), ((refl, roomt .0), ((refl, roomm .0), tt)))
 
@@ -246,14 +251,14 @@ module _ {M : Type 1} (𝓤 : URA M) (H : Heap 𝓤) (A : Atoms 𝓤) (W : Given
 module _ {M : Type 1} (𝓤 : URA M) (H : Heap 𝓤) (A : Atoms 𝓤) (W : Given 𝓤 H A) (mem : Memory → SProp 𝓤) (run : Routine → Fun 𝓤) (𝓣 : Tables 𝓤 H) (kf : Triple 𝓤 (𝓣 .C #records·find-record) (Find 𝓤 H A mem run)) (kw : Triple 𝓤 (𝓣 .C #change·change-found) (Work 𝓤 H A mem run)) (kp : Triple 𝓤 (𝓣 .C #records·put-record) (Put 𝓤 H A mem run)) where
   walks : Walks 𝓤 H A main.ended stayed (WpFn 𝓤 H (𝓣 .C) (𝓣 .Λ) code.function) (main.clauses 𝓤 H A mem run)
   walks = walked 𝓤 H A main.ended stayed (main.clauses 𝓤 H A mem run) (WpFn 𝓤 H (𝓣 .C) (𝓣 .Λ) code.function)
-      (λ κs. (LL.vals E.the-type E′.the-laws, (slice-vals, (slice-vals, (slice-vals, (slice-vals, (LL.vals S.the-type S′.the-laws, (EL.vals N.the-type N′.the-laws, (slice-vals, tt)))))))))
-      (λ κs. (LL.tells E.the-type E′.the-laws, (mut-slice-tells (named 0) (κs .0) T.the-row, (shr-slice-tells (named 1) (κs .1 .0) u64, (mut-slice-tells (named 2) (κs .1 .1 .0) u8, (shr-slice-tells (named 3) (κs .1 .1 .1 .0) u8, (LL.tells S.the-type S′.the-laws, (EL.tells N.the-type N′.the-laws, (shr-slice-tells (named 4) (κs .1 .1 .1 .1 .0) u8, tt)))))))))
+      (λ κs. (LL.vals E.the-type E′.the-laws, (slice-vals, (slice-vals, (slice-vals, (slice-vals, (LL.vals Tg.the-type Tg′.the-laws, (EL.vals N.the-type N′.the-laws, (slice-vals, tt)))))))))
+      (λ κs. (LL.tells E.the-type E′.the-laws, (mut-slice-tells (named 0) (κs .0) T.the-row, (shr-slice-tells (named 1) (κs .1 .0) u64, (mut-slice-tells (named 2) (κs .1 .1 .0) u8, (shr-slice-tells (named 3) (κs .1 .1 .1 .0) u8, (LL.tells Tg.the-type Tg′.the-laws, (EL.tells N.the-type N′.the-laws, (shr-slice-tells (named 4) (κs .1 .1 .1 .1 .0) u8, tt)))))))))
       (λ κs qs bounds a g are. via 𝓤 _ (fst∗ 𝓤 _ (emp 𝓤))
       (walk 𝓤 H A W mem run (κs .0) (κs .1 .0) (κs .1 .1 .0) (κs .1 .1 .1 .0) (κs .1 .1 .1 .1 .0) bounds (qs .0) (qs .1 .0) (qs .1 .1 .0) (qs .1 .1 .1 .0) (qs .1 .1 .1 .1 .0) (a .0) (a .1 .0 .ptr .0) (a .1 .0 .ptr .1) (a .1 .0 .name) (a .1 .0 .now) (a .1 .1 .0 .ptr .0) (a .1 .1 .0 .ptr .1) (a .1 .1 .0 .name) (a .1 .1 .0 .now) (a .1 .1 .1 .0 .ptr .0) (a .1 .1 .1 .0 .ptr .1) (a .1 .1 .1 .0 .name) (a .1 .1 .1 .0 .now) (a .1 .1 .1 .1 .0 .ptr .0) (a .1 .1 .1 .1 .0 .ptr .1) (a .1 .1 .1 .1 .0 .name) (a .1 .1 .1 .1 .0 .now) (a .1 .1 .1 .1 .1 .0) (a .1 .1 .1 .1 .1 .1 .0) (a .1 .1 .1 .1 .1 .1 .1 .0 .ptr .0) (a .1 .1 .1 .1 .1 .1 .1 .0 .ptr .1) (a .1 .1 .1 .1 .1 .1 .1 .0 .name) (a .1 .1 .1 .1 .1 .1 .1 .0 .now) (are .0) (are .1 .0 .0 .1) (are .1 .1 .0 .0 .1) (are .1 .1 .1 .0 .0 .1) (are .1 .1 .1 .1 .0 .0 .1) (are .1 .1 .1 .1 .1 .0) (are .1 .1 .1 .1 .1 .1 .0) (are .1 .1 .1 .1 .1 .1 .1 .0 .0 .1) 𝓣 kf kw kp))
 
   meets : Meets 𝓤 H A main.signature (WpFn 𝓤 H (𝓣 .C) (𝓣 .Λ) code.function) (main.spec 𝓤 H A mem run)
   meets = walk-meets 𝓤 H A main.ended stayed W
-      (goes-none 𝓤 H A W 5 (λ _. E.the-row) yes (λ κs x f. refl), (goes-gave-slice 𝓤 H A W 5 0 tt (plain (λ _. T.the-row)), (goes-none-slice 𝓤 H A W 5 (1 ∷ []) tt (plain (λ _. u64)) yes, (goes-gave-slice 𝓤 H A W 5 2 tt (plain (λ _. u8)), (goes-none-slice 𝓤 H A W 5 (3 ∷ []) tt (plain (λ _. u8)) yes, (goes-none 𝓤 H A W 5 (λ _. S.the-row) yes (λ κs x f. refl), (goes-none 𝓤 H A W 5 (λ _. N.the-row) yes (λ κs x f. refl), (goes-none-slice 𝓤 H A W 5 (4 ∷ []) tt (plain (λ _. u8)) yes, tt))))))))
+      (goes-none 𝓤 H A W 5 (λ _. E.the-row) yes (λ κs x f. refl), (goes-gave-slice 𝓤 H A W 5 0 tt (plain (λ _. T.the-row)), (goes-none-slice 𝓤 H A W 5 (1 ∷ []) tt (plain (λ _. u64)) yes, (goes-gave-slice 𝓤 H A W 5 2 tt (plain (λ _. u8)), (goes-none-slice 𝓤 H A W 5 (3 ∷ []) tt (plain (λ _. u8)) yes, (goes-none 𝓤 H A W 5 (λ _. Tg.the-row) yes (λ κs x f. refl), (goes-none 𝓤 H A W 5 (λ _. N.the-row) yes (λ κs x f. refl), (goes-none-slice 𝓤 H A W 5 (4 ∷ []) tt (plain (λ _. u8)) yes, tt))))))))
       (main.clauses 𝓤 H A mem run) (WpFn 𝓤 H (𝓣 .C) (𝓣 .Λ) code.function) (WpFn-mono 𝓤 H (W .laws) 𝓣 code.function) walks
 
 pub value-change-spec : {M : Type 1} → stated.statement M

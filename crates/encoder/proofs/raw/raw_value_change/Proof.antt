@@ -44,7 +44,7 @@ use denote.Triple.Table.{entered, cited}
 use denote.Triple.Walked.{says, Stays, stay-none, stay-none-slice, gave-slice, walkOf, goes-none, goes-none-slice, goes-gave-slice, Walks, ends-at, walked, walk-meets}
 use denote.Exit.{yes}
 use Rattle.recording.specs.declared.SignalRecord.{SignalRecord}
-use Rattle.signal.specs.declared.SignalRef.{SignalRef}
+use Rattle.recording.specs.declared.Target.{Target}
 use Rattle.recording.specs.declared.Encoder.{Encoder}
 use Rattle.recording.specs.Calls.{replyOf}
 use Rattle.recording.specs.Memory.{memory, after}
@@ -53,8 +53,8 @@ use Rattle.recording.specs.declared.Outcome.{Outcome}
 use Rattle.change_notation.specs.declared.Value.{Value}
 use Rattle.change_notation.specs.Notation.{givenOf as says-in}
 use Rattle.recording.proofs.SignalRecord as T
-use Rattle.signal.proofs.SignalRef as S
-use Rattle.signal.proofs.SignalRef.Laws as S′
+use Rattle.recording.proofs.Target as Tg
+use Rattle.recording.proofs.Target.Laws as Tg′
 use Rattle.recording.proofs.Encoder as E
 use Rattle.recording.proofs.Encoder.Laws as E′
 use Rattle.recording.proofs.Outcome as O
@@ -92,7 +92,7 @@ abbrev L : (κs : Lfts 5) → LL.Laws (D κs)
 L κs = R′.the-laws (namedLft 5 4 tt κs)
 
 abbrev stayed : Stays (main.ended .signature .params) (main.ended .kept)
-stayed = (stay-none (λ _. E.the-row) yes, (gave-slice (0 ∷ []) tt (plain (λ _. T.the-row)), (stay-none-slice (1 ∷ []) tt (plain (λ _. u64)) yes, (gave-slice (2 ∷ []) tt (plain (λ _. u8)), (stay-none-slice (3 ∷ []) tt (plain (λ _. u8)) yes, (stay-none (λ _. S.the-row) yes, (stay-none B yes, tt)))))))
+stayed = (stay-none (λ _. E.the-row) yes, (gave-slice (0 ∷ []) tt (plain (λ _. T.the-row)), (stay-none-slice (1 ∷ []) tt (plain (λ _. u64)) yes, (gave-slice (2 ∷ []) tt (plain (λ _. u8)), (stay-none-slice (3 ∷ []) tt (plain (λ _. u8)) yes, (stay-none (λ _. Tg.the-row) yes, (stay-none B yes, tt)))))))
 
 module _ {M : Type 1} (𝓤 : URA M) (H : Heap 𝓤) (A : Atoms 𝓤) (mem : Memory → SProp 𝓤) (run : Routine → Fun 𝓤) where
   abbrev Note : Contract 𝓤
@@ -101,7 +101,7 @@ module _ {M : Type 1} (𝓤 : URA M) (H : Heap 𝓤) (A : Atoms 𝓤) (mem : Mem
   abbrev Go : Contract 𝓤
   Go = tripleOf 𝓤 H A go.signature (go.spec 𝓤 H A mem run)
 
-module _ {M : Type 1} (𝓤 : URA M) (H : Heap 𝓤) (A : Atoms 𝓤) (W : Given 𝓤 H A) (mem : Memory → SProp 𝓤) (run : Routine → Fun 𝓤) (κr κt κw κm κd : Lft) (bounds : AllOutlive 5 (main.signature .outlives) (κr, (κt, (κw, (κm, (κd, tt)))))) (qr qt qw qm qd : Share) (state : Encoder) (br or : ℕ) (γr : GName) (ys : List SignalRecord) (bt ot : ℕ) (γt : GName) (ts : List ℕ) (bw ow : ℕ) (γw : GName) (ws : List ℕ) (bm om : ℕ) (γm : GName) (ms : List ℕ) (signal : SignalRef) (d : RawValue) (state-is : Is E.the-row state (LL.val E.the-type E′.the-laws state ∷ [])) (roomr : Room T.the-row (length ys)) (roomt : Room u64 (length ts)) (roomw : Room u8 (length ws)) (roomm : Room u8 (length ms)) (signal-is : Is S.the-row signal (LL.val S.the-type S′.the-laws signal ∷ [])) (d-is : Is (B (κr, (κt, (κw, (κm, (κd, tt)))))) d (LL.vals (D (κr, (κt, (κw, (κm, (κd, tt)))))) (L (κr, (κt, (κw, (κm, (κd, tt)))))) d)) where
+module _ {M : Type 1} (𝓤 : URA M) (H : Heap 𝓤) (A : Atoms 𝓤) (W : Given 𝓤 H A) (mem : Memory → SProp 𝓤) (run : Routine → Fun 𝓤) (κr κt κw κm κd : Lft) (bounds : AllOutlive 5 (main.signature .outlives) (κr, (κt, (κw, (κm, (κd, tt)))))) (qr qt qw qm qd : Share) (state : Encoder) (br or : ℕ) (γr : GName) (ys : List SignalRecord) (bt ot : ℕ) (γt : GName) (ts : List ℕ) (bw ow : ℕ) (γw : GName) (ws : List ℕ) (bm om : ℕ) (γm : GName) (ms : List ℕ) (target : Target) (d : RawValue) (state-is : Is E.the-row state (LL.val E.the-type E′.the-laws state ∷ [])) (roomr : Room T.the-row (length ys)) (roomt : Room u64 (length ts)) (roomw : Room u8 (length ws)) (roomm : Room u8 (length ms)) (target-is : Is Tg.the-row target (LL.val Tg.the-type Tg′.the-laws target ∷ [])) (d-is : Is (B (κr, (κt, (κw, (κm, (κd, tt)))))) d (LL.vals (D (κr, (κt, (κw, (κm, (κd, tt)))))) (L (κr, (κt, (κw, (κm, (κd, tt)))))) d)) where
   abbrev κs : Lfts 5
   κs = (κr, (κt, (κw, (κm, (κd, tt)))))
 
@@ -139,10 +139,10 @@ module _ {M : Type 1} (𝓤 : URA M) (H : Heap 𝓤) (A : Atoms 𝓤) (W : Given
   vm = sliceVal (bm, om) (length ms)
 
   abbrev at : Vals main.signature (κr, (κt, (κw, (κm, (κd, tt)))))
-  at = (LL.val E.the-type E′.the-laws state ∷ [], (vr ∷ [], (vt ∷ [], (vw ∷ [], (vm ∷ [], (LL.val S.the-type S′.the-laws signal ∷ [], (vd ∷ [], tt)))))))
+  at = (LL.val E.the-type E′.the-laws state ∷ [], (vr ∷ [], (vt ∷ [], (vw ∷ [], (vm ∷ [], (LL.val Tg.the-type Tg′.the-laws target ∷ [], (vd ∷ [], tt)))))))
 
   abbrev Post : Val → SProp 𝓤
-  Post = walkOf 𝓤 H A main.ended stayed (main.clauses 𝓤 H A mem run) .post (((κr, (κt, (κw, (κm, (κd, tt))))), (qr, (qt, (qw, (qm, (qd, tt))))), bounds, (state, (xr γr ys, (xt γt ts, (xw γw ws, (xm γm ms, (signal, (d, tt))))))), at), tt)
+  Post = walkOf 𝓤 H A main.ended stayed (main.clauses 𝓤 H A mem run) .post (((κr, (κt, (κw, (κm, (κd, tt))))), (qr, (qt, (qw, (qm, (qd, tt))))), bounds, (state, (xr γr ys, (xt γt ts, (xw γw ws, (xm γm ms, (target, (d, tt))))))), at), tt)
 
   abbrev value : Value
   value = Raw (classNumber (d .claim))
@@ -150,31 +150,31 @@ module _ {M : Type 1} (𝓤 : URA M) (H : Heap 𝓤) (A : Atoms 𝓤) (W : Given
   abbrev to-note : Note 𝓤 H A mem run .Ghost
   to-note = ((tt, tt, tt, (d .claim, tt), (EL.val K.the-type K′.the-laws (d .claim) ∷ [], tt)), tt)
 
-  abbrev passed : Encoder × (RefT (List SignalRecord) × (RefT (List ℕ) × (RefT (List ℕ) × (RefT (List ℕ) × (SignalRef × (Value × (RefT (List ℕ) × Unit {0})))))))
-  passed = (state, (xr γr ys, (xt γt ts, (xw γw ws, (xm γm ms, (signal, (value, (d .bytes, tt))))))))
+  abbrev passed : Encoder × (RefT (List SignalRecord) × (RefT (List ℕ) × (RefT (List ℕ) × (RefT (List ℕ) × (Target × (Value × (RefT (List ℕ) × Unit {0})))))))
+  passed = (state, (xr γr ys, (xt γt ts, (xw γw ws, (xm γm ms, (target, (value, (d .bytes, tt))))))))
 
   abbrev to : Go 𝓤 H A mem run .Ghost
-  to = ((κs, (qr, (qt, (qw, (qm, (qd, tt))))), tt, passed, (LL.val E.the-type E′.the-laws state ∷ [], (vr ∷ [], (vt ∷ [], (vw ∷ [], (vm ∷ [], (LL.val S.the-type S′.the-laws signal ∷ [], (EL.val N.the-type N′.the-laws value ∷ [], (vb ∷ [], tt))))))))), tt)
+  to = ((κs, (qr, (qt, (qw, (qm, (qd, tt))))), tt, passed, (LL.val E.the-type E′.the-laws state ∷ [], (vr ∷ [], (vt ∷ [], (vw ∷ [], (vm ∷ [], (LL.val Tg.the-type Tg′.the-laws target ∷ [], (EL.val N.the-type N′.the-laws value ∷ [], (vb ∷ [], tt))))))))), tt)
 
-  exits : (h : Outcome) (zs : List SignalRecord) (cs : List ℕ) → after (replyOf (h .answer)) (memory (h .state) zs ts cs ms) ≡ changeOf (memory state ys ts ws ms) (signal .0) (says-in value (d .bytes .now))
+  exits : (h : Outcome) (zs : List SignalRecord) (cs : List ℕ) → after (replyOf (h .answer)) (memory (h .state) zs ts cs ms) ≡ changeOf (memory state ys ts ws ms) (target .signal .0) (says-in value (d .bytes .now))
       → length zs ≡ length ys → length cs ≡ length ws → Is O.the-row h (LL.val O.the-type O′.the-laws h ∷ []) → ent 𝓤 (⋆ 𝓤 H A (‵ (flft κr qr) ∷ ‵ (flft κt qt) ∷ ‵ (flft κw qw) ∷ ‵ (flft κm qm) ∷ ‵ (flft κd qd) ∷ ‵ (finally T.the-row γr zs) ∷ ‵ (ShrSlice (named 1) κt u64 .own (xt γt ts) (vt ∷ [])) ∷ ‵ (finally u8 γw cs) ∷ ‵ (ShrSlice (named 3) κm u8 .own (xm γm ms) (vm ∷ [])) ∷ ‵ (B κs .own d (vd ∷ [])) ∷ [])) (Post (LL.val O.the-type O′.the-laws h))
   exits h zs cs e lenr lenw is =
       qed W (‵ (flft κr qr) ∷ ‵ (flft κt qt) ∷ ‵ (flft κw qw) ∷ ‵ (flft κm qm) ∷ ‵ (flft κd qd) ∷ ‵ (finally T.the-row γr zs) ∷ ‵ (ShrSlice (named 1) κt u64 .own (xt γt ts) (vt ∷ [])) ∷ ‵ (finally u8 γw cs) ∷ ‵ (ShrSlice (named 3) κm u8 .own (xm γm ms) (vm ∷ [])) ∷ ‵ (B κs .own d (vd ∷ [])) ∷ []) ∵
-      suffices ! _ (ends-at 𝓤 H A main.ended stayed (main.clauses 𝓤 H A mem run) W (((κr, (κt, (κw, (κm, (κd, tt))))), (qr, (qt, (qw, (qm, (qd, tt))))), bounds, (state, (xr γr ys, (xt γt ts, (xw γw ws, (xm γm ms, (signal, (d, tt))))))), at), tt) (LL.val O.the-type O′.the-laws h) h (tt, (zs, (tt, (cs, (tt, (tt, (tt, tt))))))) (tt, (lenr, (tt, (lenw, (tt, (tt, (tt, tt)))))))) $ says ! e $
+      suffices ! _ (ends-at 𝓤 H A main.ended stayed (main.clauses 𝓤 H A mem run) W (((κr, (κt, (κw, (κm, (κd, tt))))), (qr, (qt, (qw, (qm, (qd, tt))))), bounds, (state, (xr γr ys, (xt γt ts, (xw γw ws, (xm γm ms, (target, (d, tt))))))), at), tt) (LL.val O.the-type O′.the-laws h) h (tt, (zs, (tt, (cs, (tt, (tt, (tt, tt))))))) (tt, (lenr, (tt, (lenw, (tt, (tt, (tt, tt)))))))) $ says ! e $
       nothing ! $ move ! (5 ∷ 0 ∷ []) $ join ! $ move ! (4 ∷ 0 ∷ []) $ join ! $ move ! (3 ∷ 0 ∷ []) $ join ! $ move ! (2 ∷ 0 ∷ []) $ join ! $ move ! (1 ∷ 0 ∷ []) $ join ! $ frame ! $ nothing ! $
-      move ! (5 ∷ 0 ∷ []) $ fjoin ! $ owned ! S.the-row (Is S.the-row) (LL.makes S.the-type S′.the-plain 𝓤 H A) signal _ signal-is $ fjoin ! $ move ! (4 ∷ 0 ∷ []) $ fjoin ! $ move ! (3 ∷ 0 ∷ []) $ fjoin ! $
+      move ! (5 ∷ 0 ∷ []) $ fjoin ! $ owned ! Tg.the-row (Is Tg.the-row) (LL.makes Tg.the-type Tg′.the-plain 𝓤 H A) target _ target-is $ fjoin ! $ move ! (4 ∷ 0 ∷ []) $ fjoin ! $ move ! (3 ∷ 0 ∷ []) $ fjoin ! $
       move ! (2 ∷ 0 ∷ []) $ fjoin ! $ move ! (1 ∷ 0 ∷ []) $ fjoin ! $ owned ! E.the-row (Is E.the-row) (LL.makes E.the-type E′.the-plain 𝓤 H A) state _ state-is $ fjoin ! $
       frame ! $ owned ! O.the-row (Is O.the-row) (LL.makes O.the-type O′.the-plain 𝓤 H A) h _ is $ done !
 
   walk : (𝓣 : Tables 𝓤 H) → Triple 𝓤 (𝓣 .C #change-notation·raw-notation) (Note 𝓤 H A mem run) → Triple 𝓤 (𝓣 .C #encoder·changes·value-change) (Go 𝓤 H A mem run)
-      → ent 𝓤 (onEntry 𝓤 H A main.signature κs (qr, (qt, (qw, (qm, (qd, tt))))) (state, (xr γr ys, (xt γt ts, (xw γw ws, (xm γm ms, (signal, (d, tt))))))) at) (WpFn 𝓤 H (𝓣 .C) (𝓣 .Λ) code.function (LL.val E.the-type E′.the-laws state ∷ vr ∷ vt ∷ vw ∷ vm ∷ LL.val S.the-type S′.the-laws signal ∷ vd ∷ []) Post)
+      → ent 𝓤 (onEntry 𝓤 H A main.signature κs (qr, (qt, (qw, (qm, (qd, tt))))) (state, (xr γr ys, (xt γt ts, (xw γw ws, (xm γm ms, (target, (d, tt))))))) at) (WpFn 𝓤 H (𝓣 .C) (𝓣 .Λ) code.function (LL.val E.the-type E′.the-laws state ∷ vr ∷ vt ∷ vw ∷ vm ∷ LL.val Tg.the-type Tg′.the-laws target ∷ vd ∷ []) Post)
   walk 𝓣 kn kv =
-      qed W ((‵ (flft κr qr) ⊛ ‵ (flft κt qt) ⊛ ‵ (flft κw qw) ⊛ ‵ (flft κm qm) ⊛ ‵ (flft κd qd) ⊛ ‵ ftrue) ∷ ‵ (owns (E.the-row ∷ MutSlice (named 0) κr T.the-row ∷ ShrSlice (named 1) κt u64 ∷ MutSlice (named 2) κw u8 ∷ ShrSlice (named 3) κm u8 ∷ S.the-row ∷ B κs ∷ []) (state, (xr γr ys, (xt γt ts, (xw γw ws, (xm γm ms, (signal, (d, tt))))))) at) ∷ []) ∵
+      qed W ((‵ (flft κr qr) ⊛ ‵ (flft κt qt) ⊛ ‵ (flft κw qw) ⊛ ‵ (flft κm qm) ⊛ ‵ (flft κd qd) ⊛ ‵ ftrue) ∷ ‵ (owns (E.the-row ∷ MutSlice (named 0) κr T.the-row ∷ ShrSlice (named 1) κt u64 ∷ MutSlice (named 2) κw u8 ∷ ShrSlice (named 3) κm u8 ∷ Tg.the-row ∷ B κs ∷ []) (state, (xr γr ys, (xt γt ts, (xw γw ws, (xm γm ms, (target, (d, tt))))))) at) ∷ []) ∵
       split ! $ move ! (1 ∷ []) $ split ! $ move ! (1 ∷ []) $ split ! $ move ! (1 ∷ []) $ split ! $ move ! (1 ∷ []) $ split ! $ move ! (1 ∷ []) $ drop ! $ move ! (5 ∷ []) $ fsplit ! $ drop ! $ fsplit ! $
       move ! (1 ∷ []) $ fsplit ! $ move ! (1 ∷ []) $ fsplit ! $ move ! (1 ∷ []) $ fsplit ! $ move ! (1 ∷ []) $ fsplit ! $ drop ! $ fsplit ! $ move ! (1 ∷ []) $ drop ! $
-      keep ! (4 ∷ 9 ∷ 3 ∷ 8 ∷ 2 ∷ 7 ∷ 1 ∷ 6 ∷ 0 ∷ 5 ∷ []) $ enter ! (𝓣 .C) (𝓣 .Λ) code.function (LL.val E.the-type E′.the-laws state ∷ vr ∷ vt ∷ vw ∷ vm ∷ LL.val S.the-type S′.the-laws signal ∷ vd ∷ []) _ $
+      keep ! (4 ∷ 9 ∷ 3 ∷ 8 ∷ 2 ∷ 7 ∷ 1 ∷ 6 ∷ 0 ∷ 5 ∷ []) $ enter ! (𝓣 .C) (𝓣 .Λ) code.function (LL.val E.the-type E′.the-laws state ∷ vr ∷ vt ∷ vw ∷ vm ∷ LL.val Tg.the-type Tg′.the-laws target ∷ vd ∷ []) _ $
       alloc1 ! (λ l₀. alloc1 ! (λ l₁. alloc1 ! (λ l₂. alloc1 ! (λ l₃. alloc1 ! (λ l₄. alloc1 ! (λ l₅. alloc1 ! (λ l₆. alloc1 ! (λ l₇. alloc1 ! (λ l₈. alloc1 ! (λ l₉. alloc1 ! (λ l₁₀. alloc1 ! (λ l₁₁. alloc1 ! (λ l₁₂. alloc1 ! (λ l₁₃. alloc1 ! (λ l₁₄. alloc0 ! $ params1 ! $
-      pass1 ! (init ! 26 refl (LL.lawful E.the-type E′.the-laws 𝓤 H A W .typed state _ state-is .0)) $ pass1 ! (init ! 24 refl (tt, (tt, (record { fits = roomr .0 }, tt)))) $ pass1 ! (init ! 22 refl (tt, (tt, (record { fits = roomt .0 }, tt)))) $ pass1 ! (init ! 20 refl (tt, (tt, (record { fits = roomw .0 }, tt)))) $ pass1 ! (init ! 18 refl (tt, (tt, (record { fits = roomm .0 }, tt)))) $ pass1 ! (init ! 16 refl (LL.lawful S.the-type S′.the-laws 𝓤 H A W .typed signal _ signal-is .0)) $ pass1 ! (init ! 14 refl typed-d) $ pass0 ! $
+      pass1 ! (init ! 26 refl (LL.lawful E.the-type E′.the-laws 𝓤 H A W .typed state _ state-is .0)) $ pass1 ! (init ! 24 refl (tt, (tt, (record { fits = roomr .0 }, tt)))) $ pass1 ! (init ! 22 refl (tt, (tt, (record { fits = roomt .0 }, tt)))) $ pass1 ! (init ! 20 refl (tt, (tt, (record { fits = roomw .0 }, tt)))) $ pass1 ! (init ! 18 refl (tt, (tt, (record { fits = roomm .0 }, tt)))) $ pass1 ! (init ! 16 refl (LL.lawful Tg.the-type Tg′.the-laws 𝓤 H A W .typed target _ target-is .0)) $ pass1 ! (init ! 14 refl typed-d) $ pass0 ! $
       assigns ! (of-opd ! (load ! (from ! (fld ! refl (stop !))) (look-in ! 14 (sub ! 0 refl (whole !))))) (from ! (stop !)) (init ! 10 refl (EL.lawful K.the-type K′.the-laws 𝓤 H A W tt .typed (d .claim) _ claim-is .0)) $
       nothing ! $ nothing ! $ owned ! K.the-row (Is K.the-row) (EL.makes K.the-type K′.the-plain 𝓤 H A) (d .claim) _ claim-is $ fjoin ! $ move ! (1 ∷ 0 ∷ []) $ join ! $ nothing ! $ move ! (1 ∷ 0 ∷ []) $
       join ! $ use1 W (raw (Note 𝓤 H A mem run .pre to-note)) (id⊢ 𝓤 _) $
@@ -196,15 +196,15 @@ module _ {M : Type 1} (𝓤 : URA M) (H : Heap 𝓤) (A : Atoms 𝓤) (W : Given
       use1 W (given (vd ∷ [] ≡ vd ∷ []) (‵ (all-own (D κs .parts) (L κs) fields))) (own-open 𝓤 H A W (D κs) (L κs) fields vd) $ learn ! (λ _. fsplit ! $ drop ! $ fsplit ! $ drop ! $ fsplit ! $
       move ! (1 ∷ []) $ drop ! $ nothing ! $ move ! (43 ∷ 0 ∷ []) $ join ! $ move ! (42 ∷ 0 ∷ []) $ join ! $ move ! (41 ∷ 0 ∷ []) $ join ! $ move ! (39 ∷ 0 ∷ []) $ join ! $ move ! (38 ∷ 0 ∷ []) $ join ! $
       nothing ! $ move ! (2 ∷ 0 ∷ []) $ fjoin ! $ owned ! N.the-row (Is N.the-row) (EL.makes N.the-type N′.the-plain 𝓤 H A) value _ (value-is is₁) $ fjoin ! $
-      owned ! S.the-row (Is S.the-row) (LL.makes S.the-type S′.the-plain 𝓤 H A) signal _ signal-is $ fjoin ! $ move ! (3 ∷ 0 ∷ []) $ fjoin ! $ move ! (37 ∷ 0 ∷ []) $ fjoin ! $ move ! (4 ∷ 0 ∷ []) $
+      owned ! Tg.the-row (Is Tg.the-row) (LL.makes Tg.the-type Tg′.the-plain 𝓤 H A) target _ target-is $ fjoin ! $ move ! (3 ∷ 0 ∷ []) $ fjoin ! $ move ! (37 ∷ 0 ∷ []) $ fjoin ! $ move ! (4 ∷ 0 ∷ []) $
       fjoin ! $ move ! (35 ∷ 0 ∷ []) $ fjoin ! $ owned ! E.the-row (Is E.the-row) (LL.makes E.the-type E′.the-plain 𝓤 H A) state _ state-is $ fjoin ! $ move ! (1 ∷ 0 ∷ []) $ join ! $ nothing ! $
       move ! (1 ∷ 0 ∷ []) $ join ! $ use1 W (raw (Go 𝓤 H A mem run .pre to)) (id⊢ 𝓤 _) $
       calls-at ! (fmOf 𝓤 H (W .laws) 𝓣) (Go 𝓤 H A mem run) kv to (and-then ! (load ! (from ! (stop !)) (look ! 30 refl)) (and-then ! (load ! (from ! (stop !)) (look ! 10 refl)) (and-then ! (load ! (from ! (stop !)) (look ! 26 refl)) (and-then ! (load ! (from ! (stop !)) (look ! 6 refl)) (and-then ! (load ! (from ! (stop !)) (look ! 22 refl)) (and-then ! (load ! (from ! (stop !)) (look ! 20 refl)) (and-then ! (load ! (from ! (stop !)) (look ! 16 refl)) (and-then ! (load ! (from ! (stop !)) (look ! 4 refl)) (no-more !))))))))) (λ w.
       use1 W (later (some (λ (h : Outcome). ((‵ (flft κr qr) ⊛ ‵ (flft κt qt) ⊛ ‵ (flft κw qw) ⊛ ‵ (flft κm qm) ⊛ ‵ (flft κd qd) ⊛ ‵ ftrue) ⊛ ‵ (O.the-row .own h (w ∷ []))) ⊛ raw (ensured 𝓤 H A go.ended (go.clauses 𝓤 H A mem run) κs passed tt h)))) (id⊢ 𝓤 _) $ await ! tt $ pick ! (λ h.
       split ! $ move ! (1 ∷ []) $
-      use1 W (some (λ (zs : Unit {0} × (List SignalRecord × (Unit {0} × (List ℕ × (Unit {0} × (Unit {0} × (Unit {0} × (Unit {0} × Unit {0})))))))). ‵ (lasts go.ended κs passed zs) ⊛ raw (fact 𝓤 (after (replyOf (h .answer)) (memory (h .state) (zs .1 .0) ts (zs .1 .1 .1 .0) ms) ≡ changeOf (memory state ys ts ws ms) (signal .0) (says-in value (d .bytes .now)))))) (id⊢ 𝓤 _) $ pick ! (λ zs.
+      use1 W (some (λ (zs : Unit {0} × (List SignalRecord × (Unit {0} × (List ℕ × (Unit {0} × (Unit {0} × (Unit {0} × (Unit {0} × Unit {0})))))))). ‵ (lasts go.ended κs passed zs) ⊛ raw (fact 𝓤 (after (replyOf (h .answer)) (memory (h .state) (zs .1 .0) ts (zs .1 .1 .1 .0) ms) ≡ changeOf (memory state ys ts ws ms) (target .signal .0) (says-in value (d .bytes .now)))))) (id⊢ 𝓤 _) $ pick ! (λ zs.
       split ! $ move ! (1 ∷ []) $
-      heard ! (after (replyOf (h .answer)) (memory (h .state) (zs .1 .0) ts (zs .1 .1 .1 .0) ms) ≡ changeOf (memory state ys ts ws ms) (signal .0) (says-in value (d .bytes .now))) (λ e. fsplit ! $ drop ! $
+      heard ! (after (replyOf (h .answer)) (memory (h .state) (zs .1 .0) ts (zs .1 .1 .1 .0) ms) ≡ changeOf (memory state ys ts ws ms) (target .signal .0) (says-in value (d .bytes .now))) (λ e. fsplit ! $ drop ! $
       fsplit ! $ fsplit ! $ move ! (1 ∷ []) $ feqL ! (λ lr. move ! (1 ∷ []) $ fsplit ! $ drop ! $ fsplit ! $ fsplit ! $ move ! (1 ∷ []) $ feqL ! (λ lw. move ! (1 ∷ []) $ fsplit ! $ drop ! $ fsplit ! $
       drop ! $ fsplit ! $ drop ! $ fsplit ! $ drop ! $ drop ! $ move ! (2 ∷ []) $ split ! $ move ! (1 ∷ []) $ peeks ! O.the-row (Is O.the-row) (shows 𝓤 H A O.the-row) h (w ∷ []) (λ is.
       land ! (from ! (stop !)) (init ! 35 refl (LL.lawful O.the-type O′.the-laws 𝓤 H A W .typed h _ is .0)) $
@@ -231,14 +231,14 @@ module _ {M : Type 1} (𝓤 : URA M) (H : Heap 𝓤) (A : Atoms 𝓤) (W : Given
 module _ {M : Type 1} (𝓤 : URA M) (H : Heap 𝓤) (A : Atoms 𝓤) (W : Given 𝓤 H A) (mem : Memory → SProp 𝓤) (run : Routine → Fun 𝓤) (𝓣 : Tables 𝓤 H) (kn : Triple 𝓤 (𝓣 .C #change-notation·raw-notation) (Note 𝓤 H A mem run)) (kv : Triple 𝓤 (𝓣 .C #encoder·changes·value-change) (Go 𝓤 H A mem run)) where
   walks : Walks 𝓤 H A main.ended stayed (WpFn 𝓤 H (𝓣 .C) (𝓣 .Λ) code.function) (main.clauses 𝓤 H A mem run)
   walks = walked 𝓤 H A main.ended stayed (main.clauses 𝓤 H A mem run) (WpFn 𝓤 H (𝓣 .C) (𝓣 .Λ) code.function)
-      (λ κs. (LL.vals E.the-type E′.the-laws, (slice-vals, (slice-vals, (slice-vals, (slice-vals, (LL.vals S.the-type S′.the-laws, (LL.vals (D κs) (L κs), tt))))))))
-      (λ κs. (LL.tells E.the-type E′.the-laws, (mut-slice-tells (named 0) (κs .0) T.the-row, (shr-slice-tells (named 1) (κs .1 .0) u64, (mut-slice-tells (named 2) (κs .1 .1 .0) u8, (shr-slice-tells (named 3) (κs .1 .1 .1 .0) u8, (LL.tells S.the-type S′.the-laws, (LL.tells (D κs) (L κs), tt))))))))
+      (λ κs. (LL.vals E.the-type E′.the-laws, (slice-vals, (slice-vals, (slice-vals, (slice-vals, (LL.vals Tg.the-type Tg′.the-laws, (LL.vals (D κs) (L κs), tt))))))))
+      (λ κs. (LL.tells E.the-type E′.the-laws, (mut-slice-tells (named 0) (κs .0) T.the-row, (shr-slice-tells (named 1) (κs .1 .0) u64, (mut-slice-tells (named 2) (κs .1 .1 .0) u8, (shr-slice-tells (named 3) (κs .1 .1 .1 .0) u8, (LL.tells Tg.the-type Tg′.the-laws, (LL.tells (D κs) (L κs), tt))))))))
       (λ κs qs bounds a g are. via 𝓤 _ (fst∗ 𝓤 _ (emp 𝓤))
       (walk 𝓤 H A W mem run (κs .0) (κs .1 .0) (κs .1 .1 .0) (κs .1 .1 .1 .0) (κs .1 .1 .1 .1 .0) bounds (qs .0) (qs .1 .0) (qs .1 .1 .0) (qs .1 .1 .1 .0) (qs .1 .1 .1 .1 .0) (a .0) (a .1 .0 .ptr .0) (a .1 .0 .ptr .1) (a .1 .0 .name) (a .1 .0 .now) (a .1 .1 .0 .ptr .0) (a .1 .1 .0 .ptr .1) (a .1 .1 .0 .name) (a .1 .1 .0 .now) (a .1 .1 .1 .0 .ptr .0) (a .1 .1 .1 .0 .ptr .1) (a .1 .1 .1 .0 .name) (a .1 .1 .1 .0 .now) (a .1 .1 .1 .1 .0 .ptr .0) (a .1 .1 .1 .1 .0 .ptr .1) (a .1 .1 .1 .1 .0 .name) (a .1 .1 .1 .1 .0 .now) (a .1 .1 .1 .1 .1 .0) (a .1 .1 .1 .1 .1 .1 .0) (are .0) (are .1 .0 .0 .1) (are .1 .1 .0 .0 .1) (are .1 .1 .1 .0 .0 .1) (are .1 .1 .1 .1 .0 .0 .1) (are .1 .1 .1 .1 .1 .0) (are .1 .1 .1 .1 .1 .1 .0) 𝓣 kn kv))
 
   meets : Meets 𝓤 H A main.signature (WpFn 𝓤 H (𝓣 .C) (𝓣 .Λ) code.function) (main.spec 𝓤 H A mem run)
   meets = walk-meets 𝓤 H A main.ended stayed W
-      (goes-none 𝓤 H A W 5 (λ _. E.the-row) yes (λ κs x f. refl), (goes-gave-slice 𝓤 H A W 5 0 tt (plain (λ _. T.the-row)), (goes-none-slice 𝓤 H A W 5 (1 ∷ []) tt (plain (λ _. u64)) yes, (goes-gave-slice 𝓤 H A W 5 2 tt (plain (λ _. u8)), (goes-none-slice 𝓤 H A W 5 (3 ∷ []) tt (plain (λ _. u8)) yes, (goes-none 𝓤 H A W 5 (λ _. S.the-row) yes (λ κs x f. refl), (goes-none 𝓤 H A W 5 B yes (λ κs x f. refl), tt)))))))
+      (goes-none 𝓤 H A W 5 (λ _. E.the-row) yes (λ κs x f. refl), (goes-gave-slice 𝓤 H A W 5 0 tt (plain (λ _. T.the-row)), (goes-none-slice 𝓤 H A W 5 (1 ∷ []) tt (plain (λ _. u64)) yes, (goes-gave-slice 𝓤 H A W 5 2 tt (plain (λ _. u8)), (goes-none-slice 𝓤 H A W 5 (3 ∷ []) tt (plain (λ _. u8)) yes, (goes-none 𝓤 H A W 5 (λ _. Tg.the-row) yes (λ κs x f. refl), (goes-none 𝓤 H A W 5 B yes (λ κs x f. refl), tt)))))))
       (main.clauses 𝓤 H A mem run) (WpFn 𝓤 H (𝓣 .C) (𝓣 .Λ) code.function) (WpFn-mono 𝓤 H (W .laws) 𝓣 code.function) walks
 
 pub raw-value-change-spec : {M : Type 1} → stated.statement M

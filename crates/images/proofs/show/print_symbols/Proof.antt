@@ -17,11 +17,11 @@ loop-holds c = search needs
 returns : tie.Need-returns Inv-loop μ-loop
 returns c = search needs
 
-shared-slice-read-wide : tie.Need-shared-slice-read-wide Inv-loop μ-loop
-shared-slice-read-wide c = search needs
+shared-slice-read-wide-64 : tie.Need-shared-slice-read-wide-64 Inv-loop μ-loop
+shared-slice-read-wide-64 c = search needs
 
-wide-requires : tie.Need-wide-requires Inv-loop μ-loop
-wide-requires c κs = search needs
+wide-64-requires : tie.Need-wide-64-requires Inv-loop μ-loop
+wide-64-requires c κs = search needs
 
 print-symbol-requires : tie.Need-print-symbol-requires Inv-loop μ-loop
 print-symbol-requires c κs = search needs
@@ -46,8 +46,8 @@ print-symbols-spec =
     μ-loop
     loop-holds
     returns
-    shared-slice-read-wide
-    wide-requires
+    shared-slice-read-wide-64
+    wide-64-requires
     print-symbol-requires
     add-i
     loop-less

@@ -14,8 +14,8 @@ use Rattle.interface.proofs.bytes.wejumo_entry_value.Tie as tie
 kind-from-requires : tie.Need-kind-from-requires
 kind-from-requires c κs = search needs
 
-states-from-requires : tie.Need-states-from-requires
-states-from-requires c κs = search needs
+from-class-requires : tie.Need-from-class-requires
+from-class-requires c κs = search needs
 
 entry-value-requires : tie.Need-entry-value-requires
 entry-value-requires c κs = search needs
@@ -31,16 +31,16 @@ returns c =
     let a = c .before .before .before .before .before .before .before .before .before .args in
     entry-told _ _ _ _ (c .entry-numbers .ensures)
     (c .before .before .before .entry-value .ensures
-    ∙ ap (λ (k : SignalEncoding). entryValueOf k (classNumber (c .before .before .before .before .before .states-from .result)) (a .bytes .now) (a .out .now))
+    ∙ ap (λ (k : SignalEncoding). entryValueOf k (classNumber (c .before .before .before .before .before .from-class .result)) (a .bytes .now) (a .out .now))
     (c .before .before .before .before .before .before .kind-from .ensures)
-    ∙ ap (λ (s : States). entryValueOf (kindFrom (a .kind)) (classNumber s) (a .bytes .now) (a .out .now)) (c .before .before .before .before .before .states-from .ensures))
+    ∙ ap (λ (s : States). entryValueOf (kindFrom (a .kind)) (classNumber s) (a .bytes .now) (a .out .now)) (c .before .before .before .before .before .from-class .ensures))
 
 pub wejumo-entry-value-spec : {M : Type 1} → statement M
 wejumo-entry-value-spec =
     tie.close
     (tie.spec
     kind-from-requires
-    states-from-requires
+    from-class-requires
     entry-value-requires
     entry-numbers-requires
     same-length

@@ -9,8 +9,8 @@ use Rattle.line.proofs.number.digit.Tie as tie
 returns : tie.Need-returns
 returns c = let e = digit-below (c .before .args .b) (omega arith) in (omega arith, omega arith)
 
-widened-requires : tie.Need-widened-requires
-widened-requires c κs = search needs
+wide-64-requires : tie.Need-wide-64-requires
+wide-64-requires c κs = search needs
 
 returns-2 : tie.Need-returns-2
 returns-2 c = let e = digit-decimal (c .before .before .before .args .b) (omega arith) (omega arith) in (omega arith, omega arith)
@@ -18,8 +18,8 @@ returns-2 c = let e = digit-decimal (c .before .before .before .args .b) (omega 
 returns-3 : tie.Need-returns-3
 returns-3 c = let e = digit-middle (c .before .before .before .args .b) (omega arith) (omega arith) in (omega arith, omega arith)
 
-widened-requires-2 : tie.Need-widened-requires-2
-widened-requires-2 c κs = search needs
+wide-64-requires-2 : tie.Need-wide-64-requires-2
+wide-64-requires-2 c κs = search needs
 
 add-result : tie.Need-add-result
 add-result c = search needs
@@ -30,8 +30,8 @@ returns-4 c = let e = digit-large (c .before .before .before .before .before .ar
 returns-5 : tie.Need-returns-5
 returns-5 c = let e = digit-between (c .before .before .before .before .before .args .b) (omega arith) (omega arith) in (omega arith, omega arith)
 
-widened-requires-3 : tie.Need-widened-requires-3
-widened-requires-3 c κs = search needs
+wide-64-requires-3 : tie.Need-wide-64-requires-3
+wide-64-requires-3 c κs = search needs
 
 add-result-2 : tie.Need-add-result-2
 add-result-2 c = search needs
@@ -47,14 +47,14 @@ digit-spec =
     tie.close
     (tie.spec
     returns
-    widened-requires
+    wide-64-requires
     returns-2
     returns-3
-    widened-requires-2
+    wide-64-requires-2
     add-result
     returns-4
     returns-5
-    widened-requires-3
+    wide-64-requires-3
     add-result-2
     returns-6
     returns-7)

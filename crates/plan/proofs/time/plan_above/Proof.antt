@@ -32,8 +32,8 @@ returns c =
     let p = c .before .before .before .before .before .before in
     let a = p .args in
     c .plan-taken .ensures
-    ∙ ap (λ (q : Plan). taking q (a .time)) (c .before .plan-still .ensures ∙ ap (λ (o : Outcome). still o (a .state)) (c .before .before .taken .ensures))
-    ∙ sym (above-taken (a .state) (a .lent .records) (a .work .now) (a .lent .image) (a .time) (c .before .before .before .if1 .taken))
+    ∙ ap (λ (q : Plan). taking q (a .stamp .time)) (c .before .plan-still .ensures ∙ ap (λ (o : Outcome). still o (a .state)) (c .before .before .taken .ensures))
+    ∙ sym (above-taken (a .state) (a .lent .records) (a .work .now) (a .lent .image) (a .stamp .time) (c .before .before .before .if1 .taken))
 
 cut-size-requires : tie.Need-cut-size-requires
 cut-size-requires c κs = let h = sound _ _ _ _ _ (c .before .before .before .pre) in (h .worked, h .used, h .short)
@@ -51,9 +51,9 @@ returns-2 c =
     let z = c .before .before .before .before .cut-size in
     c .plan-still2 .ensures
     ∙ ap (λ (o : Outcome). still o (a .state)) (c .before .refused .ensures)
-    ∙ sym (above-cut (a .state) (a .lent .records) (a .work .now) (a .lent .image) (a .time) (sound _ _ _ _ _ (p .pre) .held) (c .before .before .before .before .before .if1 .left)
-    ∙ ap (timeSized (a .state) (a .lent .records) (a .time)) (sym (z .ensures))
-    ∙ sized-refused (a .state) (z .result) (timeWithCut (a .state) (a .lent .records) (a .time)) (c .before .before .if2 .taken))
+    ∙ sym (above-cut (a .state) (a .lent .records) (a .work .now) (a .lent .image) (a .stamp .time) (sound _ _ _ _ _ (p .pre) .held) (c .before .before .before .before .before .if1 .left)
+    ∙ ap (timeSized (a .state) (a .lent .records) (a .stamp .time)) (sym (z .ensures))
+    ∙ sized-refused (a .state) (z .result) (timeWithCut (a .state) (a .lent .records) (a .stamp .time)) (c .before .before .if2 .taken))
 
 cut-state-requires : tie.Need-cut-state-requires
 cut-state-requires c κs =
@@ -80,10 +80,10 @@ returns-3 c =
     let z = c .before .before .before .before .before .before .cut-size in
     let o = c .before .before .taken2 .ensures ∙ ap (λ (s : Encoder). outcome Taken (timedState s)) (c .before .before .before .cut-state .ensures) in
     c .plan-taken2 .ensures
-    ∙ ap (λ (q : Plan). taking q (a .time)) (c .before .plan-cut .ensures ∙ ap (λ (o : Outcome). cutting o (a .state) (z .result .size) (a .lent .records)) o)
-    ∙ sym (above-cut (a .state) (a .lent .records) (a .work .now) (a .lent .image) (a .time) (sound _ _ _ _ _ (p .pre) .held) (c .before .before .before .before .before .before .before .if1 .left)
-    ∙ ap (timeSized (a .state) (a .lent .records) (a .time)) (sym (z .ensures))
-    ∙ sized-cut (a .state) (z .result) (timeWithCut (a .state) (a .lent .records) (a .time)) (c .before .before .before .before .if2 .left))
+    ∙ ap (λ (q : Plan). taking q (a .stamp .time)) (c .before .plan-cut .ensures ∙ ap (λ (o : Outcome). cutting o (a .state) (z .result .size) (a .lent .records)) o)
+    ∙ sym (above-cut (a .state) (a .lent .records) (a .work .now) (a .lent .image) (a .stamp .time) (sound _ _ _ _ _ (p .pre) .held) (c .before .before .before .before .before .before .before .if1 .left)
+    ∙ ap (timeSized (a .state) (a .lent .records) (a .stamp .time)) (sym (z .ensures))
+    ∙ sized-cut (a .state) (z .result) (timeWithCut (a .state) (a .lent .records) (a .stamp .time)) (c .before .before .before .before .if2 .left))
 
 pub plan-above-spec : {M : Type 1} → statement M
 plan-above-spec =

@@ -39,7 +39,7 @@ returns c =
     c .plan-still .ensures
     ∙ ap (λ (o : Outcome). still o (a .state)) (c .before .refused .ensures)
     ∙ ap (planRefused (a .state)) n
-    ∙ sym (time-refused (a .state) (a .lent .records) (a .times .now) (a .work .now) (a .lent .image) (a .time) (λ z. c .before .before .if1 .taken (n ∙ z)))
+    ∙ sym (time-refused (a .state) (a .lent .records) (a .times .now) (a .work .now) (a .lent .image) (a .stamp .time) (λ z. c .before .before .if1 .taken (n ∙ z)))
 
 way-of-requires : tie.Need-way-of-requires
 way-of-requires c κs = let h = sound _ _ _ _ _ (none c) in omega (arith, h .held, h .table)
@@ -73,24 +73,24 @@ returns-2 c =
     let a = c .before .before .before .before .before .before .before .before .args in
     let y = sym (ap wayIn (c .before .enum-told .given .1)) ∙ c .before .before .before .way-of .ensures in
     c .plan-above .ensures
-    ∙ sym (time-passed (a .state) (a .lent .records) (a .times .now) (a .work .now) (a .lent .image) (a .time) (none (c .before .before .before .before))
-    ∙ ap (planBy (a .state) (a .lent .records) (a .work .now) (a .lent .image) (a .time)) (sym y))
+    ∙ sym (time-passed (a .state) (a .lent .records) (a .times .now) (a .work .now) (a .lent .image) (a .stamp .time) (none (c .before .before .before .before))
+    ∙ ap (planBy (a .state) (a .lent .records) (a .work .now) (a .lent .image) (a .stamp .time)) (sym y))
 
 returns-3 : tie.Need-returns-3
 returns-3 c =
     let a = c .before .before .before .before .before .before .before .before .before .args in
     let y = sym (ap wayIn (c .before .before .enum-told2 .given .1)) ∙ c .before .before .before .before .way-of .ensures in
     c .plan-still2 .ensures ∙ ap (λ (o : Outcome). still o (a .state)) (c .before .same .ensures)
-    ∙ sym (time-passed (a .state) (a .lent .records) (a .times .now) (a .work .now) (a .lent .image) (a .time) (none (c .before .before .before .before .before))
-    ∙ ap (planBy (a .state) (a .lent .records) (a .work .now) (a .lent .image) (a .time)) (sym y))
+    ∙ sym (time-passed (a .state) (a .lent .records) (a .times .now) (a .work .now) (a .lent .image) (a .stamp .time) (none (c .before .before .before .before .before))
+    ∙ ap (planBy (a .state) (a .lent .records) (a .work .now) (a .lent .image) (a .stamp .time)) (sym y))
 
 returns-4 : tie.Need-returns-4
 returns-4 c =
     let a = c .before .before .before .before .before .before .before .before .before .args in
     let y = sym (ap wayIn (c .before .before .enum-told3 .given .1)) ∙ c .before .before .before .before .way-of .ensures in
     c .plan-still3 .ensures ∙ ap (λ (o : Outcome). still o (a .state)) (c .before .back .ensures)
-    ∙ sym (time-passed (a .state) (a .lent .records) (a .times .now) (a .work .now) (a .lent .image) (a .time) (none (c .before .before .before .before .before))
-    ∙ ap (planBy (a .state) (a .lent .records) (a .work .now) (a .lent .image) (a .time)) (sym y))
+    ∙ sym (time-passed (a .state) (a .lent .records) (a .times .now) (a .work .now) (a .lent .image) (a .stamp .time) (none (c .before .before .before .before .before))
+    ∙ ap (planBy (a .state) (a .lent .records) (a .work .now) (a .lent .image) (a .stamp .time)) (sym y))
 
 pub plan-time-spec : {M : Type 1} → statement M
 plan-time-spec =

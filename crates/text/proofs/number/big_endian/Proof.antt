@@ -18,11 +18,11 @@ loop-holds c = search needs
 mul-v : tie.Need-mul-v Inv-loop μ-loop
 mul-v c = search needs
 
-shared-slice-read-wide : tie.Need-shared-slice-read-wide Inv-loop μ-loop
-shared-slice-read-wide c = search needs
+shared-slice-read-wide-64 : tie.Need-shared-slice-read-wide-64 Inv-loop μ-loop
+shared-slice-read-wide-64 c = search needs
 
-wide-requires : tie.Need-wide-requires Inv-loop μ-loop
-wide-requires c κs = search needs
+wide-64-requires : tie.Need-wide-64-requires Inv-loop μ-loop
+wide-64-requires c κs = search needs
 
 add-v : tie.Need-add-v Inv-loop μ-loop
 add-v c = search needs
@@ -47,8 +47,8 @@ big-endian-spec =
     μ-loop
     loop-holds
     mul-v
-    shared-slice-read-wide
-    wide-requires
+    shared-slice-read-wide-64
+    wide-64-requires
     add-v
     add-i
     loop-less

@@ -1,10 +1,10 @@
--- `walk_part::data_start` meets its contract: the data follow the offsets and the times.
+-- `walk_part::data_place` meets its contract: the data follow the offsets and the times.
 -- Assumes nothing.
 use native.Mathlib.Omega.{arith}
 use Rattle.walk_part.proofs.PartLaws.{start-most}
 use borrow.Author.Needs.{needs}
-use Rattle.walk_part.proofs.data_start.Statement.{statement}
-use Rattle.walk_part.proofs.data_start.Tie as tie
+use Rattle.walk_part.proofs.data_place.Statement.{statement}
+use Rattle.walk_part.proofs.data_place.Tie as tie
 
 signal-count-requires : tie.Need-signal-count-requires
 signal-count-requires c κs = search needs
@@ -31,8 +31,8 @@ add-result c =
     let p = s .pre .1 in
     omega (arith, start-most (p .0) (s .args .at) (s .args .image .now) (λ j. c .before .before .before .shared-slice-known .given j .fits) (s .pre .0) (p .1), returns c (p .0) (p .1))
 
-pub data-start-spec : {M : Type 1} → statement M
-data-start-spec =
+pub data-place-spec : {M : Type 1} → statement M
+data-place-spec =
     tie.close
     (tie.spec
     signal-count-requires
