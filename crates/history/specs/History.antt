@@ -1,6 +1,6 @@
 -- Document 01, 'History': what a list of calls says. Fed are kinds, calls and, of the answers, only which are refusals; nothing of the
--- recorder's state. What becomes of the skip is written here anew; its type, how it is counted (`counted`) and how a time stands to the last one
--- (`wayOf`) are said once, in recording/specs/Calls.antt.
+-- recorder's state. What becomes of the skip is written here anew; its type is the recorder's. How it is counted (`counted`) and how a time
+-- stands to the last one (`wayOf`) are said once, in recording/specs/Calls.antt.
 -- Assumes nothing.
 use Prim.Native.Nat.{ℕ, _-_, max}
 use mathlib.Core.Bool.{Bool, true, false}
@@ -24,7 +24,7 @@ pub record Change : Type 0 where
   pub class : ℕ
 
 -- whether changes are skipped, and how many were
-abbrev pub skipOf : (on : Bool) (count : ℕ) → ProbeSkip
+abbrev skipOf : (on : Bool) (count : ℕ) → ProbeSkip
 skipOf b n = record { on = b; count = n }
 
 -- a time below the last starts it

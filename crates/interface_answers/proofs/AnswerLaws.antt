@@ -30,9 +30,9 @@ use Rattle.interface_answers.specs.declared.images.TableNumbers.{TableNu
 use Rattle.interface_answers.specs.declared.images.JoinNumbers.{JoinNumbers}
 use Rattle.interface_answers.specs.declared.images.CursorNumbers.{CursorNumbers}
 use Rattle.interface_answers.specs.declared.images.EntryNumbers.{EntryNumbers}
-use Rattle.interface_answers.specs.Answered.{loadNumbersOf, loadFrom, loadTold, loadToldOf, tableNumbersOf, tableFrom, tableTold, tableToldOf, joinNumbersOf, joinFrom}
-use Rattle.interface_answers.specs.Answered.{joinTold, joinToldOf, contentOf, contentFrom, cursorNumbersOf, cursorFrom, cursorTold, cursorToldOf}
-use Rattle.interface_answers.specs.Answered.{entryNumbersOf, entryFrom, entryTold, entryToldOf}
+use Rattle.interface_answers.specs.Answered.{loadNumbersOf, readLoad, loadTold, loadToldOf, tableNumbersOf, readTable, tableTold, tableToldOf, joinNumbersOf, readJoin}
+use Rattle.interface_answers.specs.Answered.{joinTold, joinToldOf, contentOf, readContent, cursorNumbersOf, readCursor, cursorTold, cursorToldOf}
+use Rattle.interface_answers.specs.Answered.{entryNumbersOf, readEntry, entryTold, entryToldOf}
 
 pub load-told : (n : LoadNumbers) (r : LoadReply) (index bytes : List ℕ) (a : LoadAfter) → n ≡ loadNumbersOf r → loadAfter r index bytes ≡ a → loadTold n index bytes ≡ loadToldOf a
 load-told n r index bytes a h e = rw h (ap loadToldOf e)
@@ -51,28 +51,28 @@ join-told n r out a h e = rw h (ap joinToldOf e)
 
 -- ---- what a caller reads is what was answered
 
-pub load-back : (r : LoadReply) → loadFrom (loadNumbersOf r) ≡ r
+pub load-back : (r : LoadReply) → readLoad (loadNumbersOf r) ≡ r
 load-back (read.LoadReply.refuse n) = refl
 load-back (loaded n c) = refl
 
-pub table-back : (r : TableReply) → tableFrom (tableNumbersOf r) ≡ r
+pub table-back : (r : TableReply) → readTable (tableNumbersOf r) ≡ r
 table-back (read.TableReply.refuse n) = refl
 table-back (counted n) = refl
 
-pub join-back : (r : JoinReply) → joinFrom (joinNumbersOf r) ≡ r
+pub join-back : (r : JoinReply) → readJoin (joinNumbersOf r) ≡ r
 join-back (refuse n) = refl
 join-back (joined n) = refl
 
-content-back : (a : Content) → contentFrom (contentOf (shownAs a)) ≡ shownAs a
+content-back : (a : Content) → readContent (contentOf (shownAs a)) ≡ shownAs a
 content-back content.happened = refl
 content-back (content.symbols s) = refl
 content-back (content.bits b) = refl
 
 abbrev CursorBack : CursorAfter → Type 0
-CursorBack a = cursorFrom (cursorNumbersOf (a .reply)) ≡ a .reply
+CursorBack a = readCursor (cursorNumbersOf (a .reply)) ≡ a .reply
 
 abbrev EntryBack : EntryAfter → Type 0
-EntryBack a = entryFrom (entryNumbersOf (a .reply)) ≡ a .reply
+EntryBack a = readEntry (entryNumbersOf (a .reply)) ≡ a .reply
 
 pointed-back : (times : List ℕ) (t : ℕ) (es : List Entry) (out : List ℕ) → CursorBack (pointedIn times t es out)
 pointed-back times t [] out = refl

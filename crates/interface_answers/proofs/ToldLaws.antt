@@ -13,7 +13,7 @@ use Rattle.recording.specs.Memory.{memory, After, after, refused}
 use Rattle.interface_state.specs.declared.StateNumbers.{StateNumbers}
 use Rattle.interface_answers.specs.declared.outcome.OutcomeNumbers.{OutcomeNumbers}
 use Rattle.interface_state.specs.State.{stateFrom}
-use Rattle.interface_answers.specs.Recorded.{answerNumber, valueNumber, replyFrom, outcomeOf, told, toldOf}
+use Rattle.interface_answers.specs.Recorded.{answerNumber, valueNumber, readReply, outcomeOf, told, toldOf}
 use Rattle.interface_state.proofs.StateLaws.{state-same, state-back}
 
 -- `call` is the inner call's definition over the state that it gets
@@ -29,7 +29,7 @@ pub refused-same : (s : StateNumbers) (records : List SignalRecord) (times work 
 unfolding toldOf outcomeOf
 refused-same s records times work image n = state-same s
 
-reply-back : (a : Answer) → replyFrom (answerNumber (replyOf a)) (valueNumber (replyOf a)) ≡ replyOf a
+reply-back : (a : Answer) → readReply (answerNumber (replyOf a)) (valueNumber (replyOf a)) ≡ replyOf a
 reply-back Started = refl
 reply-back Taken = refl
 reply-back Same = refl
@@ -41,6 +41,6 @@ reply-back (Refused n) = refl
 
 -- a caller reads the answer and the state that the call left, whatever numbers it got
 pub outcome-back : (s : StateNumbers) (o : Outcome) → let n = outcomeOf s (replyOf (o .answer)) (o .state) in
-    (replyFrom (n .answer) (n .value) ≡ replyOf (o .answer)) × (stateFrom (n .state) ≡ o .state)
+    (readReply (n .answer) (n .value) ≡ replyOf (o .answer)) × (stateFrom (n .state) ≡ o .state)
 unfolding outcomeOf
 outcome-back s o = (reply-back (o .answer), state-back s (o .state))

@@ -1,4 +1,4 @@
--- How the answers of the calls on images cross as numbers, and how a caller reads them (`..From`). In each, `answer` 0 is a refusal and
+-- How the answers of the calls on images cross as numbers, and how a caller reads them (`read..`). In each, `answer` 0 is a refusal and
 -- `value` then its number; the other answers have numbers that the recorder's calls do not use.
 -- Law (proofs/AnswerLaws): what a caller reads is what was answered.
 -- Assumes nothing.
@@ -30,8 +30,8 @@ abbrev pub loadNumbersOf : LoadReply → LoadNumbers
 loadNumbersOf (read.LoadReply.refuse n) = record { answer = 0; value = n; class = 0 }
 loadNumbersOf (loaded n c) = record { answer = 8; value = n; class = c }
 
-abbrev pub loadFrom : LoadNumbers → LoadReply
-loadFrom n = pick (eqb (n .answer) 8) (loaded (n .value) (n .class)) (read.LoadReply.refuse (n .value))
+abbrev pub readLoad : LoadNumbers → LoadReply
+readLoad n = pick (eqb (n .answer) 8) (loaded (n .value) (n .class)) (read.LoadReply.refuse (n .value))
 
 pub record LoadTold : Type 0 where
   pub numbers : LoadNumbers
@@ -50,8 +50,8 @@ abbrev pub tableNumbersOf : TableReply → TableNumbers
 tableNumbersOf (read.TableReply.refuse n) = record { answer = 0; value = n }
 tableNumbersOf (counted n) = record { answer = 9; value = n }
 
-abbrev pub tableFrom : TableNumbers → TableReply
-tableFrom n = pick (eqb (n .answer) 9) (counted (n .value)) (read.TableReply.refuse (n .value))
+abbrev pub readTable : TableNumbers → TableReply
+readTable n = pick (eqb (n .answer) 9) (counted (n .value)) (read.TableReply.refuse (n .value))
 
 pub record TableTold : Type 0 where
   pub numbers : TableNumbers
@@ -69,8 +69,8 @@ abbrev pub joinNumbersOf : JoinReply → JoinNumbers
 joinNumbersOf (join.JoinReply.refuse n) = record { answer = 0; value = n }
 joinNumbersOf (joined n) = record { answer = 14; value = n }
 
-abbrev pub joinFrom : JoinNumbers → JoinReply
-joinFrom n = pick (eqb (n .answer) 14) (joined (n .value)) (join.JoinReply.refuse (n .value))
+abbrev pub readJoin : JoinNumbers → JoinReply
+readJoin n = pick (eqb (n .answer) 14) (joined (n .value)) (join.JoinReply.refuse (n .value))
 
 pub record JoinTold : Type 0 where
   pub numbers : JoinNumbers
@@ -101,8 +101,8 @@ contentOf (event b) = content 0 0 b
 contentOf (vector c b) = content 1 c b
 contentOf (real f b) = content 2 0 b
 
-abbrev pub contentFrom : ContentNumbers → Shown
-contentFrom n =
+abbrev pub readContent : ContentNumbers → Shown
+readContent n =
     pick (eqb (n .form) 1) (vector (n .class) (n .bits))
     (pick (eqb (n .form) 2) (real (ofBits binary64 (n .bits)) (n .bits))
     (event (n .bits)))
@@ -114,9 +114,9 @@ cursorNumbersOf (read.CursorReply.refuse n) = record { answer = 0; value = n; ti
 cursorNumbersOf (found n t s) = record { answer = 10; value = n; time = t; content = contentOf s }
 cursorNumbersOf nothing = record { answer = 11; value = 0; time = 0; content = content 0 0 0 }
 
-abbrev pub cursorFrom : CursorNumbers → CursorReply
-cursorFrom n =
-    pick (eqb (n .answer) 10) (found (n .value) (n .time) (contentFrom (n .content)))
+abbrev pub readCursor : CursorNumbers → CursorReply
+readCursor n =
+    pick (eqb (n .answer) 10) (found (n .value) (n .time) (readContent (n .content)))
     (pick (eqb (n .answer) 11) nothing
     (read.CursorReply.refuse (n .value)))
 
@@ -137,9 +137,9 @@ entryNumbersOf (entry.EntryReply.refuse n) = record { answer = 0; value = n; con
 entryNumbersOf (shown s) = record { answer = 12; value = 0; content = contentOf s }
 entryNumbersOf noEntry = record { answer = 13; value = 0; content = content 0 0 0 }
 
-abbrev pub entryFrom : EntryNumbers → EntryReply
-entryFrom n =
-    pick (eqb (n .answer) 12) (shown (contentFrom (n .content)))
+abbrev pub readEntry : EntryNumbers → EntryReply
+readEntry n =
+    pick (eqb (n .answer) 12) (shown (readContent (n .content)))
     (pick (eqb (n .answer) 13) noEntry
     (entry.EntryReply.refuse (n .value)))
 

@@ -36,8 +36,8 @@ valueNumber (say h) = 0
 valueNumber (total n) = n
 
 -- as a caller reads them
-abbrev pub replyFrom : (answer value : ℕ) → Reply
-replyFrom a v =
+abbrev pub readReply : (answer value : ℕ) → Reply
+readReply a v =
     pick (eqb a 1) started
     (pick (eqb a 2) (say taken)
     (pick (eqb a 3) (say same)

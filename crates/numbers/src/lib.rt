@@ -15,7 +15,7 @@ pub fn wide(x: u8) -> u32
     x as u32
 }
 
-// The same with more room.
+// The same with more room; that it is below 256 serves sums of many bytes.
 pub fn wide_64(x: u8) -> u64
     ensures { λ r. ⌜ (r ≡ x) × (r < 256) ⌝ }
 {

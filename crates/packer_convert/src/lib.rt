@@ -12,7 +12,7 @@ ghost use Rattle.packed.specs.Packed.{perByte, digitAt, digits};
 ghost use Rattle.packer.specs.Number.{numberIn, symbolsAt, Held};
 
 // So many symbols of a packed value, with so many after them.
-fn packed_symbols(
+fn converted_symbols(
     src: &[u8],
     from: States,
     width: u32,
@@ -40,9 +40,9 @@ fn packed_byte(src: &[u8], from: States, width: u32, after: u32, states: States)
     ensures { λ r. ⌜ r ≡ digitAt 8 after (numberIn (classNumber states) (Notation.Packed from) width (now (src .entry))) ⌝ }
 {
     match states {
-        States::Two => packed_symbols(src, from, width, after * 8, 8, States::Two) as u8,
-        States::Four => packed_symbols(src, from, width, after * 4, 4, States::Four) as u8,
-        States::Nine => packed_symbols(src, from, width, after * 2, 2, States::Nine) as u8,
+        States::Two => converted_symbols(src, from, width, after * 8, 8, States::Two) as u8,
+        States::Four => converted_symbols(src, from, width, after * 4, 4, States::Four) as u8,
+        States::Nine => converted_symbols(src, from, width, after * 2, 2, States::Nine) as u8,
     }
 }
 

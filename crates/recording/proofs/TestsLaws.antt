@@ -56,10 +56,11 @@ pub guarded-by : {A B : Type 0} (h : A → B) (ts : Tests) (f : ℕ → A) (e : 
 guarded-by h [] f e r s = s
 guarded-by h (t ∷ ts) f e r s = pick-by h (t .0) _ _ (r (t .1)) (guarded-by h ts f e r s)
 
+-- the same, by the function alone
 pub guarded-map : {A B : Type 0} (h : A → B) (ts : Tests) (f : ℕ → A) (e : A) → h (guarded ts f e) ≡ guarded ts (λ n. h (f n)) (h e)
 guarded-map h ts f e = guarded-by h ts f e (λ n. refl) refl
 
--- what holds of every refusal and of what is not refused
+-- what holds of every refusal and of what is not refused holds of what the tests choose
 pub guarded-either : {A : Type 0} (P : A → Type 0) (ts : Tests) (f : ℕ → A) (e : A) → ((n : ℕ) → P (f n)) → P e → P (guarded ts f e)
 guarded-either P [] f e r s = s
 guarded-either P (t ∷ ts) f e r s = pick-either P (t .0) (f (t .1)) (guarded ts f e) (r (t .1)) (guarded-either P ts f e r s)

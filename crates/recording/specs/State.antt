@@ -30,7 +30,7 @@ skipCounted k = probeSkip (k .on) (counted (k .count))
 
 -- ---- the state
 
-abbrev pub encoder : (closed : Bool) (limit signals held work image blocks : ℕ) → ProbeSkip → Encoder
+abbrev encoder : (closed : Bool) (limit signals held work image blocks : ℕ) → ProbeSkip → Encoder
 encoder c l s h w i b k = record { closed = c; limit = l; signals = s; held = h; work = w; image = i; blocks = b; skips = k }
 
 abbrev pub withClosed : Encoder → Bool → Encoder

@@ -1,4 +1,4 @@
-// The state of a recording, its signals' records and its answers. Document 01, 'Recording', 'Turned back'.
+// The state of a recording, its signals' records, what its calls are given and what they answer. Document 01, 'Recording', 'Turned back'.
 //
 // What each call does to them is defined in specs/Step.antt; the refusals by tests stand in specs/Refusals.antt.
 use signal::SignalRef;
@@ -41,18 +41,19 @@ pub struct Encoder {
     pub skips: ProbeSkip,
 }
 
-// What a recording is started with: B and S.
+// What a call is given beside lent memory and a value stands in a struct, so that a number more is a field and no function between has another
+// parameter. A start is given B and S.
 pub struct Settings {
     pub limit: u32,
     pub signals: u32,
 }
 
-// What a time brings.
+// A time is given when it was.
 pub struct Stamp {
     pub time: u64,
 }
 
-// What a change is for.
+// A change is given its signal.
 pub struct Target {
     pub signal: SignalRef,
 }

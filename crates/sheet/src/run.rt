@@ -14,17 +14,17 @@ pub const CLOSED: usize = 0;
 
 pub const LIMIT: usize = 1;
 
-pub const SIGNALS: usize = 2;
+const SIGNALS: usize = 2;
 
-pub const HELD: usize = 3;
+const HELD: usize = 3;
 
-pub const USED: usize = 4;
+const USED: usize = 4;
 
 pub const TOTAL: usize = 5;
 
-pub const BLOCKS: usize = 6;
+const BLOCKS: usize = 6;
 
-pub const SKIP: usize = 7;
+const SKIP: usize = 7;
 
 pub const SKIPPED: usize = 8;
 

@@ -65,6 +65,7 @@ pub fn decode_raw(kind: SignalEncoding, claim: u32, value: &[u8]) -> DecodedChan
             if width == 0 {
                 return DecodedChange::Refused(5);
             }
+            // that a claim above 2 is bad, `decode_raw_change` alone decides
             let states = States::from_class(claim);
             decoded(decode_raw_change(width, claim, value), states)
         }

@@ -42,7 +42,7 @@ impl States {
         States::Nine
     }
 
-    // The same for a number that a caller gives.
+    // The same for a number of 32 bits, as callers give a class.
     pub fn from_class(n: u32) -> States
         ensures { λ r. ⌜ r ≡ statesOf n ⌝ }
     {

@@ -81,7 +81,8 @@ returns-3 c =
     let o = c .before .before .taken2 .ensures ∙ ap (λ (s : Encoder). outcome Taken (timedState s)) (c .before .before .before .cut-state .ensures) in
     c .plan-taken2 .ensures
     ∙ ap (λ (q : Plan). taking q (a .stamp .time)) (c .before .plan-cut .ensures ∙ ap (λ (o : Outcome). cutting o (a .state) (z .result .size) (a .lent .records)) o)
-    ∙ sym (above-cut (a .state) (a .lent .records) (a .work .now) (a .lent .image) (a .stamp .time) (sound _ _ _ _ _ (p .pre) .held) (c .before .before .before .before .before .before .before .if1 .left)
+    ∙ sym (above-cut (a .state) (a .lent .records) (a .work .now) (a .lent .image) (a .stamp .time) (sound _ _ _ _ _ (p .pre) .held)
+    (c .before .before .before .before .before .before .before .if1 .left)
     ∙ ap (timeSized (a .state) (a .lent .records) (a .stamp .time)) (sym (z .ensures))
     ∙ sized-cut (a .state) (z .result) (timeWithCut (a .state) (a .lent .records) (a .stamp .time)) (c .before .before .before .before .if2 .left))
 

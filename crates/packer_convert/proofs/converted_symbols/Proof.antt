@@ -9,8 +9,8 @@ use Rattle.packer.specs.Number.{numberIn}
 use Rattle.packer.specs.declared.Notation.the-variants.{Packed}
 use Rattle.packer.proofs.PackLaws.{Taken, taken-none, taken-more, taken-small, taken-all}
 use Rattle.packer.proofs.NotationLaws.{packed-digit}
-use Rattle.packer_convert.proofs.packed_symbols.Statement.{statement}
-use Rattle.packer_convert.proofs.packed_symbols.Tie as tie
+use Rattle.packer_convert.proofs.converted_symbols.Statement.{statement}
+use Rattle.packer_convert.proofs.converted_symbols.Tie as tie
 
 abbrev Inv-loop : tie.InvT-loop
 Inv-loop src from width after count states working₀ i₀ working i =
@@ -50,8 +50,8 @@ loop-again c =
 returns : tie.Need-returns Inv-loop μ-loop
 returns c = taken-all _ _ _ _ (c .loop-test .left) (c .before .loop .inv)
 
-pub packed-symbols-spec : {M : Type 1} → statement M
-packed-symbols-spec =
+pub converted-symbols-spec : {M : Type 1} → statement M
+converted-symbols-spec =
     tie.close
     (tie.spec
     Inv-loop
