@@ -127,5 +127,7 @@ int main(void) {
   uint8_t symbols[4] = {0};
   wejumo_cursor_answer found = wejumo_opened_cursor(first, total, 1, 15, symbols, sizeof symbols);
   printf("at 15: answer %u entry %u time %llu form %u\n", found.answer, found.value, (unsigned long long)found.time, found.content.form);
+  found = wejumo_opened_cursor(first, total, 1, 9, symbols, sizeof symbols);
+  printf("at 9, before its first change: answer %u\n", found.answer);
   return join(first, total);
 }

@@ -64,7 +64,7 @@ extern "C" {
 #define WEJUMO_LOADED UINT32_C(8)    /* value: the number of kept entries */
 #define WEJUMO_TABLE UINT32_C(9)     /* value: the length of the combined table */
 #define WEJUMO_FOUND UINT32_C(10)    /* value: the entry's number */
-#define WEJUMO_NOTHING UINT32_C(11)
+#define WEJUMO_NOTHING UINT32_C(11)  /* no entry at or before the time */
 #define WEJUMO_ENTRY UINT32_C(12)
 #define WEJUMO_NO_ENTRY UINT32_C(13)
 #define WEJUMO_JOINED UINT32_C(14)   /* value: the total bytes of the joined image */
@@ -228,8 +228,8 @@ WEJUMO_ASSERT(offsetof(wejumo_content, form) == 0);
 WEJUMO_ASSERT(offsetof(wejumo_content, value_class) == 4);
 WEJUMO_ASSERT(offsetof(wejumo_content, bits) == 8);
 
-/* FOUND with the entry's number, time and content, or NOTHING: the signal has no entries. All else is 0 where it is not found, but for a
- * refusal's number. */
+/* FOUND with the entry's number, time and content, or NOTHING: the signal has no entry at or before the time. All else is 0 where it is not
+ * found, but for a refusal's number. */
 typedef struct wejumo_cursor_answer {
   uint32_t answer;
   uint32_t value;
@@ -274,8 +274,8 @@ wejumo_table_answer wejumo_table(const uint8_t *image, size_t image_length,
  * or the signal does not exist, or it has no changes there. Blocks are walked from the first to the one asked for. */
 wejumo_part wejumo_stream(const uint8_t *image, size_t image_length, uint32_t block, uint32_t signal);
 
-/* The last entry of a signal at or before a time; before the first, the first. Refused with 11, 4, 9: the symbol buffer is shorter than the
- * signal's width. */
+/* The last entry of a signal at or before a time. Before its first change, and without changes, NOTHING, and no symbol is written. Refused
+ * with 11, 4, 9: the symbol buffer is shorter than a vector's width, even where there is NOTHING. */
 wejumo_cursor_answer wejumo_cursor(const uint8_t *image, size_t image_length, uint32_t signal, uint64_t time,
                                    uint8_t *symbols, size_t symbols_length);
 

@@ -6,9 +6,9 @@
   images.py answers            its standard output
   images.py damaged SEED N     N random damaged images, as questions `open HEX`
 
-Tables and loads of the recordings of crates/recordings/stdin are answered by the Rust (loads.out), and the entries that
-cursors find there are held against the values that the Rust shows. All other answers are those of reader.py; the
-second opener (opener.py) must agree with it on every image.
+Tables and loads of the recordings of crates/recordings/stdin are answered by the Rust (loads.out), and what cursors
+find there is held against the entries and values that the Rust shows: where it shows none, the cursor finds none. All
+other answers are those of reader.py; the second opener (opener.py) must agree with it on every image.
 """
 import functools
 import pathlib
@@ -24,7 +24,7 @@ SEED = 40019
 HERE = pathlib.Path(__file__).parent
 WITH_CURSORS = 240  # of the recordings; the others are opened and loaded
 WITH_ROOMS = range(7, 55)
-NUMBERS, BYTES, IMAGE, QUESTIONS = 64, 2048, 1024, 409_600  # what crates/images has
+NUMBERS, BYTES, IMAGE, QUESTIONS = 64, 2048, 1024, 425_984  # what crates/images has
 TOP_TIME = 2**64 - 1
 BENCH = bytes.fromhex(
     "02000000 04000000 01000000 43000000 01000000 04000000 2B000000 02000000 02000000 01000000 03000000"
@@ -55,28 +55,49 @@ class Sheet:
 # Recordings that the Rust made and loaded.
 
 def rust_loads():
-    """For each recording its table and, by signal, the load and the values."""
+    """For each recording its table and, by signal, the load, the values and the offsets."""
     for line in (HERE / "loads.out").read_text().splitlines():
         if line.startswith("times "):
             loaded = {"table": line}
             yield loaded
         else:
             signal, rest = line.split(" ", 2)[1:]
-            if rest.startswith("values:"):
-                loaded[f"values {signal}"] = rest.split(" ")[1:]
+            name, _, words = rest.partition(":")
+            if name in ("values", "offsets"):
+                loaded[f"{name} {signal}"] = words.split()
             else:
                 loaded[f"load {signal}"] = rest
+
+
+def rust_shows(loaded, signal, time):
+    """The number and the value of the last entry that the Rust shows at a time, or None. It is asked by a place of its
+    table, that of the last time up to this one, and answers the first entry there and how many they are."""
+    place = sum(int(at) <= time for at in loaded["table"].split(" ")[2:]) - 1
+    offset = loaded[f"offsets {signal}"][place] if place >= 0 else "-"
+    if offset == "-":
+        return None
+    first, count = map(int, offset.split("+"))
+    return first + count - 1, loaded[f"values {signal}"][first + count - 1]
 
 
 def room_for(kind):
     return 0 if kind in (EVENT, REAL) else kind
 
 
-def ask_cursor(sheet, image, signal, time, room, values):
+def ask_cursor(sheet, image, signal, time, room, loaded):
     found = cursor(image, signal, time, room)
-    assert (found is None) == (values == [])
-    assert found is None or value_word(found[2]) == values[found[0]]
+    shown = None if found is None else (found[0], value_word(found[2]))
+    assert shown == rust_shows(loaded, signal, time), (signal, time, image.hex(), shown)
     sheet.ask(f"cursor {signal} {time} {room}", image)
+
+
+def asked_times(rng, read, signal):
+    """Two times of the table or beside them, and the time before the signal's first entry; 0 without a table."""
+    times = combined(read)[0]
+    near = [time + step for time in times for step in (-1, 0, 1) if 0 <= time + step <= TOP_TIME]
+    chosen = rng.sample(near, min(2, len(near))) or [0]
+    before = [times[index] - 1 for index, _ in kept(read, signal)[0][:1] if times[index] > 0]
+    return chosen + [time for time in before if time not in chosen]
 
 
 def recordings(sheet, rng):
@@ -88,15 +109,13 @@ def recordings(sheet, rng):
         read = read_image(image)
         sheet.ask("open", image, "yes")
         sheet.ask(f"table {NUMBERS}", image, loaded["table"])
-        times = combined(read)[0] if number < WITH_CURSORS else []
         for signal, kind in enumerate(read.kinds):
             if kind == ABSENT:
                 sheet.ask(f"load {signal} {NUMBERS} {BYTES}", image, "refused 4")
                 continue
             sheet.ask(f"load {signal} {NUMBERS} {BYTES}", image, loaded[f"load {signal}"])
-            near = [time + step for time in times for step in (-1, 0, 1) if 0 <= time + step <= TOP_TIME]
-            for time in rng.sample(near, min(2, len(near))) or [0] * (number < WITH_CURSORS):
-                ask_cursor(sheet, image, signal, time, room_for(kind), loaded[f"values {signal}"])
+            for time in asked_times(rng, read, signal) if number < WITH_CURSORS else ():
+                ask_cursor(sheet, image, signal, time, room_for(kind), loaded)
         pairs = [(block, signal) for block in range(len(read.blocks)) for signal in range(len(read.kinds))]
         for block, signal in rng.sample(pairs, min(3, len(pairs))):
             sheet.ask(f"stream {block} {signal}", image)
@@ -145,11 +164,15 @@ def bench(sheet):
     sheet.ask("stream 0 0", BENCH, "01")
     sheet.ask("stream 0 1", BENCH, "01060401")
     first, second = "entry 0 time 10 class 1 001x", "entry 1 time 20 class 0 0001"
-    for time in (0, 9, 10, 11, 19):
+    for time in (0, 9):
+        for signal, width in ((0, 1), (1, 4)):
+            sheet.ask(f"cursor {signal} {time} {width}", BENCH, "none")
+            sheet.ask(f"cursor {signal} {time} {width - 1}", BENCH, "refused 9")
+    for time in (10, 11, 19):
         sheet.ask(f"cursor 1 {time} 4", BENCH, first)
     for time in (20, 21, TOP_TIME):
         sheet.ask(f"cursor 1 {time} 4", BENCH, second)
-    for time in (0, 10, TOP_TIME):
+    for time in (10, TOP_TIME):
         sheet.ask(f"cursor 0 {time} 1", BENCH, "entry 0 time 10 class 0 1")
     sheet.ask("cursor 1 20 3", BENCH, "refused 9")
     sheet.ask("cursor 0 20 0", BENCH, "refused 9")
@@ -294,6 +317,58 @@ def by_hand(sheet):
         strangers(sheet, image)
 
 
+# The cursor before, at and after a signal's first change.
+
+def found_at(sheet, image, signal, room, *asked):
+    """Each pair has times and what the cursor answers there."""
+    for times, answered in asked:
+        for time in times:
+            sheet.ask(f"cursor {signal} {time} {room}", image, answered)
+
+
+def first_changes(sheet):
+    """B 2, times 1 2 and 2 3. The vector has changes in the second block only, two of them at one time; the event two
+    in the first and one in the second; the real one at the end; the last signal none."""
+    image = made(2, [2, EVENT, REAL, 2], [
+        ((1, 2), [None, (0, "01 00"), None, None]),
+        ((2, 3), [(1, "04 01 01 06"), (0, "01"), (0, "01" + ONE), None])])
+    sheet.ask("open", image, "yes")
+    sheet.ask("load 0 2 2", image, "entries 2 class 1: 2 2 0146")
+    found_at(sheet, image, 0, 2, ((0, 1, 2), "none"), ((3, TOP_TIME), "entry 1 time 3 class 1 1x"))
+    found_at(sheet, image, 0, 3, ((2,), "none"))
+    found_at(sheet, image, 0, 1, ((0, 2, 3), "refused 9"))
+    found_at(sheet, image, 1, 0, ((0, 1), "none"), ((2,), "entry 1 time 2 event"), ((3, 4), "entry 2 time 3 event"))
+    found_at(sheet, image, 2, 0, ((0, 2), "none"), ((3, TOP_TIME), "entry 0 time 3 real 3ff0000000000000"))
+    found_at(sheet, image, 3, 2, ((0, 3, TOP_TIME), "none"))
+    found_at(sheet, image, 3, 1, ((0, 3), "refused 9"))
+
+
+def first_and_last_time(sheet):
+    """A change at time 0 has no time before it; one at the last time has all others."""
+    image = made(2, [1, 1, EVENT, REAL], [((0, TOP_TIME), [(0, "01"), (0, "11"), (0, "01"), (0, "01" + ONE)])])
+    sheet.ask("open", image, "yes")
+    found_at(sheet, image, 0, 1, ((0, 1, TOP_TIME), "entry 0 time 0 class 0 1"))
+    before = ((0, 1, TOP_TIME - 1), "none")
+    found_at(sheet, image, 1, 1, before, ((TOP_TIME,), f"entry 0 time {TOP_TIME} class 0 1"))
+    found_at(sheet, image, 2, 0, before, ((TOP_TIME,), f"entry 0 time {TOP_TIME} event"))
+    found_at(sheet, image, 3, 0, before, ((TOP_TIME,), f"entry 0 time {TOP_TIME} real 3ff0000000000000"))
+
+
+def repeats_of_the_first(sheet):
+    """Changes that repeat the first are no entries, over blocks too: it stands, with its own time."""
+    image = two(1, (0, "11"), (0, "01 11"), (0, "10 01"))
+    sheet.ask("open", image, "yes")
+    sheet.ask("load 0 3 3", image, "entries 3 class 0: 1 3 3 010001")
+    found_at(sheet, image, 0, 1, ((0, 1), "none"), ((2, 3), "entry 0 time 2 class 0 1"))
+    found_at(sheet, image, 0, 1, ((4, 5), "entry 2 time 4 class 0 1"))
+
+
+def first_entries(sheet):
+    first_changes(sheet)
+    first_and_last_time(sheet)
+    repeats_of_the_first(sheet)
+
+
 # Joined images.
 
 def joined(*images):
@@ -316,7 +391,7 @@ def one_time_three_times(sheet):
         sheet.ask(f"stream {block} 0", image, "00")
     sheet.ask("stream 3 0", image, "")
     for time in (0, 4, 5, 6):
-        sheet.ask(f"cursor 0 {time} 0", image, f"entry {0 if time < 5 else 2} time 5 event")
+        sheet.ask(f"cursor 0 {time} 0", image, "none" if time < 5 else "entry 2 time 5 event")
     rooms(sheet, image)
 
 
@@ -337,9 +412,11 @@ def claim_before_the_seam(sheet):
     for block, streams in enumerate((("01", "0403"), ("0110", "0003"))):
         for signal, stream in enumerate(streams):
             sheet.ask(f"stream {block} {signal}", image, stream)
-    for time in (0, 1, 5, 8, 9, 10):
+    sheet.ask("cursor 0 0 1", image, "none")
+    for time in (1, 5, 8, 9, 10):
         sheet.ask(f"cursor 0 {time} 1", image, "entry 0 time 1 class 0 1" if time < 9 else "entry 1 time 9 class 0 0")
-        sheet.ask(f"cursor 1 {time} 2", image, "entry 0 time 5 class 0 11")
+    for time in (0, 1, 4, 5, 8, 9, 10):
+        sheet.ask(f"cursor 1 {time} 2", image, "none" if time < 5 else "entry 0 time 5 class 0 11")
     rooms(sheet, image)
 
 
@@ -349,7 +426,8 @@ def gap(sheet):
     sheet.ask("open", image, "yes")
     sheet.ask("table 3", image, "times 3: 1 2 7")
     sheet.ask("load 0 2 2", image, "entries 2 class 1: 0 2 0042")
-    for time in (0, 1, 2, 3, 6):
+    sheet.ask("cursor 0 0 1", image, "none")
+    for time in (1, 2, 3, 6):
         sheet.ask(f"cursor 0 {time} 1", image, "entry 0 time 1 class 0 0")
     for time in (7, 8, TOP_TIME):
         sheet.ask(f"cursor 0 {time} 1", image, "entry 1 time 7 class 1 x")
@@ -374,6 +452,18 @@ def seams(sheet):
     around(sheet, image)
 
 
+def first_after_the_seam(sheet):
+    """What has its first change in the second recording shows nothing before it, whether that starts later or not."""
+    kinds = [1, EVENT, REAL]
+    first = made(2, kinds, [((1, 4), [(0, "01"), None, None])])
+    for start in (4, 7):
+        image = joined(first, made(2, kinds, [((start, 9), [None, (0, "00"), (0, "01" + ONE)])]))
+        sheet.ask("open", image, "yes")
+        found_at(sheet, image, 0, 1, ((0,), "none"), ((1, start, 9), "entry 0 time 1 class 0 1"))
+        found_at(sheet, image, 1, 0, ((0, 1, start - 1), "none"), ((start, 9), f"entry 0 time {start} event"))
+        found_at(sheet, image, 2, 0, ((0, 4, 8), "none"), ((9, 10), "entry 0 time 9 real 3ff0000000000000"))
+
+
 def turned_back():
     """Of two conditions the earlier; no condition but these."""
     first, second = made(2, [1], [((1, 2), [(0, "00")])]), made(2, [1], [((7,), [(1, "02")])])
@@ -396,6 +486,7 @@ def joins(sheet):
     claim_before_the_seam(sheet)
     gap(sheet)
     seams(sheet)
+    first_after_the_seam(sheet)
 
 
 # Damaged images.
@@ -508,6 +599,7 @@ def main():
     rng, sheet = random.Random(SEED), Sheet()
     bench(sheet)
     by_hand(sheet)
+    first_entries(sheet)
     joins(sheet)
     recordings(sheet, rng)
     damaged(sheet, rng, sources(), 300)

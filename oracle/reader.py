@@ -1,6 +1,6 @@
 #!/usr/bin/env python3
-"""The reader of document 01, with document 02's joins, from the written rules alone: opener, stream part, loading,
-combined table, cursor.
+"""The reader of document 01, with document 02's joins and its "none" before a first change, from the written rules
+alone: opener, stream part, loading, combined table, cursor.
 
   reader.py            answers the questions on standard input
   reader.py loads      reads the lines `image HEX` among those of standard input, and prints what
@@ -260,19 +260,25 @@ def load(image, signal, index_room, byte_room):
 
 
 def cursor(image, signal, time, room):
-    """None, or the entry's number, time and content."""
+    """The number, time and content of the last entry at or before a time; None where there is none."""
     read = read_image(image)
     known(read, signal)
     kind = read.kinds[signal]
     refuse(9, kind != REAL and kind > room)
     times = combined(read)[0]
-    entries, _ = kept(read, signal)
-    if not entries:
-        return None
-    upto = [number for number, (index, _) in enumerate(entries) if times[index] <= time]
-    number = upto[-1] if upto else 0
-    index, content = entries[number]
-    return number, times[index], content
+    found = None
+    for number, (index, content) in enumerate(kept(read, signal)[0]):
+        if times[index] <= time:
+            found = number, times[index], content
+    return found
+
+
+def offsets(read, signal):
+    """For each place of the table FIRST+COUNT of the entries at the last place up to it that has any, or `-`."""
+    indices = [index for index, _ in kept(read, signal)[0]]
+    for place in range(len(combined(read)[0])):
+        last = max((index for index in indices if index <= place), default=None)
+        yield "-" if last is None else f"{indices.index(last)}+{indices.count(last)}"
 
 
 # Lines.
@@ -339,6 +345,7 @@ def loads(image):
         if kind != ABSENT:
             yield f"signal {signal} " + shown_entries(*load(image, signal, room, 1 << 30))
             yield line_of(f"signal {signal} values:", (value_word(content) for _, content in kept(read, signal)[0]))
+            yield line_of(f"signal {signal} offsets:", offsets(read, signal))
 
 
 def blocks(image):

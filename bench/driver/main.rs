@@ -1,6 +1,7 @@
 //! Measures our wave memory and the Rust's on the same calls, in one process, and prints the tables of docs/BENCHMARKS.md.
 
 mod clock;
+mod cursor;
 mod ours;
 mod workload;
 
@@ -161,9 +162,7 @@ impl Sides {
     fn loading(&mut self, repetitions: usize, turns: usize, opened: bool) -> Pairs {
         let bytes = &self.image[..];
         let image = Image::open(bytes).unwrap();
-        let signal = (0..self.w.kinds.len() as u32)
-            .find(|s| !image.stream(0, *s).is_empty())
-            .unwrap();
+        let signal = first_changed(&image);
         let (index, out) = (&mut self.index, &mut self.bytes);
         let one = || {
             let said = match opened {
@@ -212,6 +211,12 @@ impl Sides {
         let ours = || timed(|| wejumo::join(first, second, out)).0;
         Pairs::measure(repetitions, ours, repeated(1, plain))
     }
+}
+
+/// The first signal with changes in the first block.
+fn first_changed(image: &Image) -> u32 {
+    let changed = |signal: &u32| !image.stream(0, *signal).is_empty();
+    (0..image.signals()).find(changed).expect("a signal with changes")
 }
 
 fn repeated<T>(turns: usize, mut work: impl FnMut() -> T) -> impl FnMut() -> u64 {
@@ -327,6 +332,14 @@ fn tables(only: Option<&str>) {
     for s in &mut sides {
         row(&s.w.name.clone(), &s.loading_all(31), s.w.changes as f64, Some(1.0));
     }
+    cursor::table(&sides);
+}
+
+fn cursors() {
+    let wanted = |w: &Workload| cursor::WORKLOADS.contains(&&w.name[..]);
+    let sides: Vec<Sides> = workloads().into_iter().filter(wanted).map(Sides::new).collect();
+    assert_eq!(sides.len(), cursor::WORKLOADS.len(), "a workload of the cursor's is gone");
+    cursor::table(&sides);
 }
 
 fn flat_row(name: &str, s: &mut Sides, repetitions: usize) {
@@ -372,8 +385,9 @@ fn main() {
             tables(None);
             flatness();
         }
+        ["cursor"] => cursors(),
         ["flatness"] => flatness(),
         [name] => tables(Some(name)),
-        _ => panic!("usage: bench [WORKLOAD | flatness]"),
+        _ => panic!("usage: bench [WORKLOAD | cursor | flatness]"),
     }
 }

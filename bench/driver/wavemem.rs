@@ -102,6 +102,13 @@ impl Loader {
     }
 }
 
+/// The value that a loaded signal has at a place of the table: that of the last entry there, of which there are fewer than 65,536.
+#[inline]
+pub fn value_at(signal: &Signal, place: u32) -> Option<SignalValueRef<'_>> {
+    let found = signal.get_offset(place)?;
+    Some(signal.get_value_at(&found, found.elements - 1))
+}
+
 /// The indices and the entry bytes of a loaded signal.
 pub fn loaded(signal: &Signal) -> (&[u32], &[u8]) {
     (signal.time_indices(), entry_bytes(signal))

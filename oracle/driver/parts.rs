@@ -114,17 +114,14 @@ fn reading() {
     assert_eq!(hex(entry_bytes(&three)), "00", "class bits 3 load as Two");
     let top_bits = loaded(SignalEncoding::BitVector(2), &[0, 0x31]);
     assert_eq!(hex(entry_bytes(&top_bits)), "31", "unused top bits stay");
-    let late = loaded(EVENT, &[1]);
-    assert!(
-        late.get_offset(0).is_none(),
-        "nothing before the first change"
-    );
     let twice = loaded(EVENT, &[0, 0]).get_offset(0).unwrap();
     assert_eq!(
         (twice.start, twice.elements),
         (0, 2),
         "the first of two entries at one time"
     );
+    let many = loaded(EVENT, &[0; 65_536]).get_offset(0).unwrap();
+    assert_eq!((many.start, many.elements), (0, 0), "a count of 16 bits");
     let zeros = [0, 0, 0, 0, 0, 0, 0, 0, 0, 0, 0, 0, 0, 0, 0, 0, 0, 0x80];
     let zeros = loaded(SignalEncoding::Real, &zeros);
     let values: Vec<_> = zeros.iter_changes().map(|(_, value)| value).collect();

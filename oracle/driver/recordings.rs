@@ -167,7 +167,7 @@ fn joined(words: impl Iterator<Item = String>) -> String {
 }
 
 /// One entry as the Rust shows it.
-fn shown(value: SignalValueRef<'_>) -> String {
+pub(super) fn shown(value: SignalValueRef<'_>) -> String {
     match value {
         SignalValueRef::Event => "event".to_string(),
         SignalValueRef::BitVec(value) => {
@@ -184,6 +184,15 @@ pub(super) fn shown_values(signal: &Signal) -> Vec<String> {
         .iter_changes()
         .map(|(_, value)| shown(value))
         .collect()
+}
+
+/// What `get_offset` finds at a place of the table, FIRST+COUNT, or `-` for nothing.
+fn offset(signal: &Signal, place: usize) -> String {
+    signal
+        .get_offset(place as TimeTableIdx)
+        .map_or("-".to_string(), |at| {
+            format!("{}+{}", at.start, at.elements)
+        })
 }
 
 /// What the `SignalSource` that `finish` answers loads, absent signals left out.
@@ -217,6 +226,8 @@ fn write_loads(out: &mut impl Write, kinds: &[Kind], encoder: Encoder) {
         writeln!(out, "{}", joined(bytes.into_iter())).unwrap();
         let values = joined(shown_values(signal).into_iter());
         writeln!(out, "signal {number} values:{values}").unwrap();
+        let offsets = joined((0..table.len()).map(|place| offset(signal, place)));
+        writeln!(out, "signal {number} offsets:{offsets}").unwrap();
     }
 }
 

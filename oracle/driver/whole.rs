@@ -1,6 +1,8 @@
 //! Single values and whole recordings as functions: what the Rust makes of the calls it is given.
 
-use super::recordings::{Call, Kind, call, change, finish, hierarchy, shown_values, start, time};
+use super::recordings::{
+    Call, Kind, call, change, finish, hierarchy, shown, shown_values, start, time,
+};
 use super::*;
 
 /// A value that a change gives.
@@ -62,6 +64,17 @@ pub struct Loaded {
     pub indices: Vec<u32>,
     pub bytes: Vec<u8>,
     pub values: Vec<String>,
+    pub signal: Signal,
+}
+
+/// What `get_offset` finds at a place of the table: the last of the entries there by its number, their place, and its value.
+/// Nothing before the first entry. At one place stand fewer than 65,536 entries: `get_offset` counts in 16 bits.
+pub fn shown_at(signal: &Signal, place: u32) -> Option<(u32, u32, String)> {
+    let found = signal.get_offset(place)?;
+    let last = found.elements - 1;
+    let value = signal.get_value_at(&found, last);
+    let number = found.start as u32 + u32::from(last);
+    Some((number, signal.get_time_idx_at(&found), shown(value)))
 }
 
 /// What the Rust makes of a recording, or of recordings appended.
@@ -89,14 +102,15 @@ fn streams(block: &Block) -> Vec<Vec<u8>> {
     (0..block.offsets.len()).map(stream).collect()
 }
 
-fn load(reader: &Reader, id: SignalRef, signal: &Signal) -> Loaded {
+fn load(reader: &Reader, id: SignalRef, signal: Signal) -> Loaded {
     let class = reader.collect_signal_meta_data(id).max_states;
     assert!(signal.max_states().is_none_or(|own| own == class));
     Loaded {
         class: class as u32,
         indices: signal.time_indices().to_vec(),
-        bytes: entry_bytes(signal).to_vec(),
-        values: shown_values(signal),
+        bytes: entry_bytes(&signal).to_vec(),
+        values: shown_values(&signal),
+        signal,
     }
 }
 
@@ -108,7 +122,7 @@ fn loads(mut source: SignalSource, reader: &Reader, kinds: &[Kind]) -> Vec<Optio
         .collect();
     let signals = source.load_signals(&ids, &hierarchy(kinds), false);
     let mut out: Vec<Option<Loaded>> = kinds.iter().map(|_| None).collect();
-    for (id, signal) in ids.iter().zip(&signals) {
+    for (id, signal) in ids.iter().zip(signals) {
         out[id.index()] = Some(load(reader, *id, signal));
     }
     out

@@ -28,7 +28,7 @@ pub enum Cursor {
         time: u64,
         value: Value,
     },
-    /// The signal has no entries.
+    /// No entry is at or before the time: the time is before the signal's first change, or it has none. No symbol is written.
     Nothing,
 }
 
@@ -149,7 +149,7 @@ impl<'a> Image<'a> {
         })
     }
 
-    /// The last entry at or before a time; before the first, the first. 4, 9.
+    /// The last entry at or before a time; nothing before the first change. A vector's width of symbols must fit, even for nothing. 4, 9.
     pub fn cursor(&self, signal: u32, time: u64, symbols: &mut [u8]) -> Result<Cursor, Refusal> {
         pointed(unsafe {
             ffi::wejumo_opened_cursor(
@@ -193,7 +193,7 @@ pub fn stream(image: &[u8], block: u32, signal: u32) -> &[u8] {
     })
 }
 
-/// The cursor over any bytes. 11, 4, 9.
+/// The last entry at or before a time, of any bytes; nothing before the first change. 11, 4, 9.
 pub fn cursor(image: &[u8], signal: u32, time: u64, symbols: &mut [u8]) -> Result<Cursor, Refusal> {
     pointed(unsafe {
         ffi::wejumo_cursor(

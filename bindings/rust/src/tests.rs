@@ -65,17 +65,72 @@ fn opened_once() {
     assert_eq!(image.load(2, &mut index, &mut entries), Err(Refusal(4)));
     assert_eq!(image.stream(0, 1), [0x01, 0x06, 0x04, 0x01]);
     assert!(image.stream(1, 0).is_empty());
-    let mut symbols = [9; 5];
-    assert_eq!(
-        image.cursor(1, 19, &mut symbols),
-        Ok(Cursor::Found {
-            number: 0,
-            time: 10,
-            value: Value::Vector(States::Four)
-        })
-    );
-    assert_eq!(symbols, [0, 0, 1, 2, 9]);
-    assert_eq!(image.cursor(1, 19, &mut symbols[..3]), Err(Refusal(9)));
+}
+
+/// The cursor with so many symbols lent, and these afterwards; with and without opening it answers alike.
+fn at(bytes: &[u8], signal: u32, time: u64, room: usize) -> (Result<Cursor, Refusal>, Vec<u8>) {
+    let (mut symbols, mut others) = (vec![9; room], vec![9; room]);
+    let answer = Image::open(bytes).unwrap().cursor(signal, time, &mut symbols);
+    assert_eq!(cursor(bytes, signal, time, &mut others), answer);
+    assert_eq!(others, symbols);
+    (answer, symbols)
+}
+
+fn found(number: u32, time: u64, value: Value) -> Result<Cursor, Refusal> {
+    Ok(Cursor::Found { number, time, value })
+}
+
+#[test]
+fn nothing_before_the_first_change() {
+    let bytes = sheet();
+    for (signal, width, time) in [(0, 1, 0), (0, 1, 9), (1, 4, 0), (1, 4, 9)] {
+        for room in [width, width + 1] {
+            assert_eq!(at(&bytes, signal, time, room), (Ok(Cursor::Nothing), vec![9; room]));
+        }
+        assert_eq!(
+            at(&bytes, signal, time, width - 1),
+            (Err(Refusal(9)), vec![9; width - 1])
+        );
+    }
+    for time in [10, 19] {
+        let first = found(0, 10, Value::Vector(States::Four));
+        assert_eq!(at(&bytes, 1, time, 5), (first, vec![0, 0, 1, 2, 9]));
+        assert_eq!(at(&bytes, 1, time, 3), (Err(Refusal(9)), vec![9; 3]));
+    }
+    let second = found(1, 20, Value::Vector(States::Two));
+    assert_eq!(at(&bytes, 1, 20, 4), (second, vec![0, 0, 0, 1]));
+    assert_eq!(at(&bytes, 1, u64::MAX, 4), (second, vec![0, 0, 0, 1]));
+}
+
+/// B 2. Time 3; time 5, an event twice; time 7, after a cut, a real and a vector twice; a vector of width 1 without changes.
+#[test]
+fn nothing_before_a_first_change_in_a_later_block() {
+    let bits = 0x7FF0_0000_0000_0001;
+    let bytes = recorded(&[0, numbers::REAL, 2, 1], 2, |r| {
+        r.time(3)?;
+        r.time(5)?;
+        r.vcd(0, b"1")?;
+        r.vcd(0, b"1")?;
+        r.time(7)?;
+        r.real(1, bits)?;
+        r.vcd(2, b"0x")?;
+        r.vcd(2, b"11")
+    });
+    for time in [0, 3, 4] {
+        assert_eq!(at(&bytes, 0, time, 0), (Ok(Cursor::Nothing), vec![]));
+    }
+    assert_eq!(at(&bytes, 0, 5, 1), (found(1, 5, Value::Event), vec![9]));
+    for time in [0, 5, 6] {
+        assert_eq!(at(&bytes, 1, time, 0), (Ok(Cursor::Nothing), vec![]));
+        assert_eq!(at(&bytes, 2, time, 2), (Ok(Cursor::Nothing), vec![9, 9]));
+    }
+    assert_eq!(at(&bytes, 1, 7, 1), (found(0, 7, Value::Real(bits)), vec![9]));
+    let last = found(1, 7, Value::Vector(States::Two));
+    assert_eq!(at(&bytes, 2, 7, 3), (last, vec![1, 1, 9]));
+    for time in [0, 7, u64::MAX] {
+        assert_eq!(at(&bytes, 3, time, 1), (Ok(Cursor::Nothing), vec![9]));
+        assert_eq!(at(&bytes, 3, time, 0), (Err(Refusal(9)), vec![]));
+    }
 }
 
 #[test]
@@ -117,8 +172,10 @@ fn any_bytes_answer_as_an_image_does() {
         assert_eq!(a, b);
         assert_eq!(stream(&good, 0, signal), image.stream(0, signal));
         let (mut s, mut t) = ([0; 4], [0; 4]);
-        assert_eq!(cursor(&good, signal, 20, &mut s), image.cursor(signal, 20, &mut t));
-        assert_eq!(s, t);
+        for time in [9, 20] {
+            assert_eq!(cursor(&good, signal, time, &mut s), image.cursor(signal, time, &mut t));
+            assert_eq!(s, t);
+        }
     }
     assert_eq!(table(&good, &mut [0; 2]), image.table(&mut [0; 2]));
     for i in 0..good.len() {
@@ -198,7 +255,7 @@ fn a_sum_keeps_every_byte() {
 /// The image of a recording: its kinds by number, B, and its calls, none of which is refused.
 fn recorded(kinds: &[u32], limit: u32, calls: impl Fn(&mut Recorder) -> Result<Answer, Refusal>) -> Vec<u8> {
     let mut records: Vec<u64> = kinds.iter().map(|kind| Kind::from_number(*kind).record()).collect();
-    let (mut times, mut work, mut image) = ([0; 4], [0; 64], [0; 128]);
+    let (mut times, mut work, mut image) = ([0; 4], [0; 64], [0; 256]);
     let mut recorder = Recorder::new(&mut records, &mut times, &mut work, &mut image);
     assert_eq!(recorder.start(limit), Ok(Answer::Started));
     calls(&mut recorder).unwrap();
@@ -291,6 +348,8 @@ fn three_joined_at_one_time() {
     assert_eq!(joined_in(&one, &two, 200).as_ref(), Ok(&three));
     assert_eq!(three.len(), 98);
     assert_eq!(shown(&three, 0), (States::Two, vec![0, 0, 0], vec![], vec![5]));
+    assert_eq!(at(&three, 0, 4, 0), (Ok(Cursor::Nothing), vec![]));
+    assert_eq!(at(&three, 0, 5, 0), (found(2, 5, Value::Event), vec![]));
 }
 
 #[test]
@@ -308,8 +367,9 @@ fn a_join_with_a_gap() {
         shown(&joined, 0),
         (States::Four, vec![0, 2], vec![0x00, 0x42], vec![1, 2, 7])
     );
-    let found = cursor(&joined, 0, 6, &mut [0]).unwrap();
-    assert!(matches!(found, Cursor::Found { number: 0, time: 1, .. }));
+    assert_eq!(at(&joined, 0, 0, 1), (Ok(Cursor::Nothing), vec![9]));
+    let first = found(0, 1, Value::Vector(States::Two));
+    assert_eq!(at(&joined, 0, 6, 1), (first, vec![0]));
 }
 
 /// So much room is enough, and one byte less is not.

@@ -1,13 +1,13 @@
 -- Texts put one after the other.
 -- Assumes nothing.
-use Prim.Native.Nat.{ℕ, _+_}
+use Prim.Native.Nat.{ℕ, _+_, _≤_}
 use mathlib.Core.Path.{_≡_, refl, sym, ap, _∙_, subst}
 use mathlib.Core.List.{List, [], _∷_, _++_}
 use native.Mathlib.Omega.{arith}
 use native.Mathlib.Nat.{add-zero}
-use lib.ListN.{length, set, length-append}
+use lib.ListN.{length, set, take, length-append}
 use lib.Seq.{sets, length-sets}
-use Rattle.lists.proofs.SetsLaws.{sets-append}
+use Rattle.lists.proofs.SetsLaws.{sets-append, taken-back}
 use Rattle.ascii.specs.Put.{Room, Puts}
 
 pub puts-none : {at : ℕ} {l : List ℕ} → Puts [] at l at l
@@ -31,6 +31,17 @@ room-as {s} {t} {at} {l} e x = subst (λ (u : List ℕ). Room u at l) e x
 
 pub puts-length : {a : List ℕ} {at p : ℕ} {l m : List ℕ} → Puts a at l p m → length m ≡ length l
 puts-length {a} {at} {p} {l} {m} x = ap length (x .held) ∙ length-sets l at a
+
+-- a text at the start of a buffer, read back
+pub record TextRead (text : List ℕ) (n : ℕ) (made : List ℕ) : Type 0 where
+  pub is : take n made ≡ text
+  pub count : n ≡ length text
+  pub inside : n ≤ length made
+
+pub text-read : (text buffer : List ℕ) (n : ℕ) (made : List ℕ) → length text ≤ length buffer → Puts text 0 buffer n made → TextRead text n made
+text-read text buffer n made h x =
+    let e : n ≡ length text = omega (arith, x .place) in
+    record { is = ap (take n) (x .held) ∙ taken-back text buffer n e (omega arith); count = e; inside = omega (arith, puts-length x) }
 
 pub room-first : {a : List ℕ} (b : List ℕ) {at : ℕ} {l : List ℕ} → Room (a ++ b) at l → Room a at l
 room-first {a} b h = record { inside = omega (arith, length-append a b, h .inside) }

@@ -12,8 +12,7 @@ ghost use mathlib.Core.Path.{_≡_};
 ghost use Rattle.loaded.specs.Reader.{cursorReply, cursorAfter, cursorIn};
 ghost use Rattle.walk.specs.Walk.{Opened, imageIn};
 
-// The last entry of a signal with time at or before t; before the first, entry 0. 4 by the signal, 9 by the width even where there is no
-// entry.
+// The last entry of a signal with time at or before t, if there is one. 4 by the signal, 9 by the width even where there is none.
 pub fn cursor_in(image: &[u8], signal: u32, t: u64, out: &mut [u8]) -> CursorAnswer
     requires { ⌜ Opened (now image) ⌝ }
     ensures { λ r. ⌜ cursorAfter (cursorReply r) (now (out .exit)) ≡ cursorIn (imageIn (now (image .entry))) signal t (now (out .entry)) ⌝ }
@@ -26,14 +25,13 @@ pub fn cursor_in(image: &[u8], signal: u32, t: u64, out: &mut [u8]) -> CursorAns
         return CursorAnswer::Refused(9);
     }
     let held = point_at(image, kind, signal, t);
-    let number = held.number;
-    let time = held.time;
-    let found = held.found;
-    match found {
+    let last = held.last;
+    match last {
         KeptChange::Nothing => CursorAnswer::Nothing,
         KeptChange::Change(value, next) => {
+            let number = held.count - 1;
             let entry = value_at(image, kind, value, next, out);
-            CursorAnswer::Found(number, time, entry)
+            CursorAnswer::Found(number, held.time, entry)
         }
     }
 }

@@ -10,6 +10,7 @@ use lib.Seq.{drop-drop, drop-cons, drop-length}
 use Rattle.lists.specs.Bytes.{Bytes}
 use Rattle.signal.specs.declared.kind.SignalEncoding.{SignalEncoding}
 use Rattle.signal.specs.declared.decode.ChangeValue.{ChangeValue}
+use Rattle.signal.specs.Content.{Content}
 use Rattle.stream.specs.Entries.{Entry, streamBytes}
 use Rattle.stream.specs.Stream.{changeBytes, maxDelta}
 use Rattle.stream.specs.Answer.{changeAt}
@@ -18,6 +19,7 @@ use Rattle.image.specs.Block.{Block, block}
 use Rattle.image.specs.Head.{imageLimit}
 use Rattle.image.specs.Image.{Image, streamed}
 use Rattle.image.proofs.SizeLaws.{block-size}
+use Rattle.codec.specs.Valid.{Rising, EntriesFit}
 use Rattle.codec.proofs.StreamLaws.{change-long}
 use Rattle.loaded.specs.Opener.{kindAt, blockAt, partAt}
 use Rattle.loaded.specs.Loading.{entriesIn}
@@ -27,9 +29,9 @@ use Rattle.walk.proofs.HeadLaws.{means, head-in}
 use Rattle.walk.proofs.BlockLaws.{fits-in, here, next-place, next-size}
 use Rattle.walk_part.proofs.PartLaws.{stream-entries}
 use Rattle.cursor_point.specs.declared.Pointing.{Pointing}
-use Rattle.cursor_point.specs.Point.{Point, passed, allPassed, blocksPassed, pointAs, PointReads}
-use Rattle.cursor_point.proofs.PointLaws.{passed-count}
-use Rattle.cursor_point.proofs.LoadLaws.{part-fits, parts-short}
+use Rattle.cursor_point.specs.Point.{Point, kept, passed, allPassed, blocksPassed, pointAs, PointReads}
+use Rattle.cursor_point.proofs.PointLaws.{InOrder, none-passed, passed-count, passed-kept}
+use Rattle.cursor_point.proofs.LoadLaws.{in-order, part-fits, parts-short}
 use Rattle.cursor_point.proofs.StreamLaws.{Standing, Read, read-first, never-bad}
 
 -- ---- a block is known by its place
@@ -107,6 +109,11 @@ passing-begins n k b g at from to top t start y o h e f r c =
       same = refl;
     }
 
+-- the point after block number m, which begins there
+abbrev pub Passed : SignalEncoding → (b : List ℕ) (g at t : ℕ) → (start held : Pointing) → (m : ℕ) → Type 0
+Passed k b g at t start held m =
+    pointAs k b held ≡ allPassed (blockAt (imageIn b) m .times) t (pointAs k b start) (entriesIn (partAt (blockAt (imageIn b) m) g))
+
 -- what a turn needs, and what it leaves
 pub record Turn (k : SignalEncoding) (b : List ℕ) (g at to t : ℕ) (start held : Pointing) (p i d : ℕ) (v : ChangeValue) (next : ℕ) : Type 0 where
   pub time : TimeHere at (i + d) b
@@ -115,9 +122,12 @@ pub record Turn (k : SignalEncoding) (b : List ℕ) (g at to t : ℕ) (start hel
   pub reads : Reads k b v next
   pub more : p < next
   pub most : next ≤ to
+  -- a time at or before t: the change is kept
   pub again :
-      (r : Pointing) (u : ℕ) → ((m : ℕ) → BlockHere m at b → u ≡ getD (blockAt (imageIn b) m .times) (i + d) 0) → PointReads k b r
-      → pointAs k b r ≡ passed t (pointAs k b held) u (contentRead k b v next) → Passing k b g at to t start r next (i + d)
+      (r : Pointing) (u : ℕ) → ((m : ℕ) → BlockHere m at b → u ≡ getD (blockAt (imageIn b) m .times) (i + d) 0) → u ≤ t → PointReads k b r
+      → pointAs k b r ≡ kept (pointAs k b held) u (contentRead k b v next) → Passing k b g at to t start r next (i + d)
+  -- a time after t: nothing more is
+  pub stops : (u m : ℕ) → BlockHere m at b → u ≡ getD (blockAt (imageIn b) m .times) (i + d) 0 → t < u → Passed k b g at t start held m
 
 module _ (k : SignalEncoding) (b : List ℕ) (g at to t : ℕ) (start held : Pointing) (p i : ℕ) (y : Bytes b) (o : Opened b) (w : Passing k b g at to t start held p i) where
   pub passing-turn : (d : ℕ) (v : ChangeValue) (next : ℕ) → p < to → changeAt k b p ≡ read.Change d v next → Turn k b g at to t start held p i d v next
@@ -127,6 +137,7 @@ module _ (k : SignalEncoding) (b : List ℕ) (g at to t : ℕ) (start held : Poi
       let small = times-most n at b y o (w .standing) in
       let q : Read k b (length ts) p to i d v next (w .left) = read-first k b (length ts) p to i y small h d v next (w .left) (w .stands) e in
       let long : length (w .left) ≡ suc (length (q .rest)) = ap length (q .all) in
+      let rising = fits-in n b y o (w .standing .exists) .rising in
       record {
         time = (n, w .standing, q .below);
         small = omega (arith, q .below);
@@ -134,25 +145,38 @@ module _ (k : SignalEncoding) (b : List ℕ) (g at to t : ℕ) (start held : Poi
         reads = q .reads;
         more = q .more;
         most = q .after .ordered;
-        again = λ r u f z m.
+        again = λ r u f l z m.
+            let c : Content = contentRead k b v next in
+            let j : pointAs k b r ≡ passed t (pointAs k b held) u c = m ∙ passed-kept t (pointAs k b held) u c l in
             let s : passed t (pointAs k b held) (getD ts (q .first .index) 0) (q .first .content) ≡ pointAs k b r =
             ap (λ (j : ℕ). passed t (pointAs k b held) (getD ts j 0) (q .first .content)) (sym (q .index))
             ∙ ap (λ (j : ℕ). passed t (pointAs k b held) j (q .first .content)) (sym (f n (w .standing)))
-            ∙ ap (passed t (pointAs k b held) u) (q .content) ∙ sym m in
+            ∙ ap (passed t (pointAs k b held) u) (q .content) ∙ sym j in
             record {
               number = n;
               standing = w .standing;
               left = q .rest;
               stands = q .after;
               reads = z;
-              room = omega (arith, w .room, passed-count t (pointAs k b held) u (contentRead k b v next), ap (λ (a : Point). a .count) m);
+              room = omega (arith, w .room, passed-count t (pointAs k b held) u c, ap (λ (a : Point). a .count) j);
               same = step ts (q .first) (q .rest) (pointAs k b r) s ∙ sym (ap (allPassed ts t (pointAs k b held)) (q .all)) ∙ w .same;
             };
+        stops = λ u m f e l.
+            let same = same-block n m at b (w .standing) f in
+            subst (Passed k b g at t start held) same
+            (none-passed ts t (getD ts (q .first .index) 0) (pointAs k b held) (w .left)
+            (omega (arith, e, ap (λ (j : ℕ). getD (blockAt (imageIn b) j .times) (i + d) 0) same, ap (λ (j : ℕ). getD ts j 0) (q .index)))
+            (from-first ts (w .left) (q .first) (q .rest) rising (w .stands) (q .all)) ∙ w .same);
       }
     where
       step : (ts : List ℕ) (e : Entry) (es : List Entry) (s : Point) → passed t (pointAs k b held) (getD ts (e .index) 0) (e .content) ≡ s
           → allPassed ts t s es ≡ allPassed ts t (pointAs k b held) (e ∷ es)
       step ts e es s f = unfold allPassed in ap (λ (a : Point). allPassed ts t a es) (sym f)
+
+      from-first : (ts : List ℕ) (l : List Entry) (e : Entry) (es : List Entry) → Rising ts → Standing k b (length ts) p to i l → l ≡ e ∷ es → InOrder ts (getD ts (e .index) 0) l
+      from-first ts l e es r s q =
+          let f : EntriesFit k (length ts) i (s .top) (e ∷ es) = subst (EntriesFit k (length ts) i (s .top)) q (s .fits) in
+          rw q (omega arith, in-order k ts (e .index) (s .top) es r (f .1) (f .0 .inside))
 
   pub passing-bad : p < to → changeAt k b p ≡ read.Bad → ⊥
   passing-bad h e =
@@ -174,12 +198,10 @@ module _ (k : SignalEncoding) (b : List ℕ) (g at to t : ℕ) (start held : Poi
         length-append (changeBytes k (e .index - i) (e .content)) (streamBytes k (e .index) es),
       ))
 
-  pub passing-ends : (m : ℕ) → to ≤ p → BlockHere m at b
-      → pointAs k b held ≡ allPassed (blockAt (imageIn b) m .times) t (pointAs k b start) (entriesIn (partAt (blockAt (imageIn b) m) g))
+  pub passing-ends : (m : ℕ) → to ≤ p → BlockHere m at b → Passed k b g at t start held m
   passing-ends m h f =
-      let e = same-block (w .number) m at b (w .standing) f in
       let ts : List ℕ = blockAt (imageIn b) (w .number) .times in
-      subst (λ (n : ℕ). pointAs k b held ≡ allPassed (blockAt (imageIn b) n .times) t (pointAs k b start) (entriesIn (partAt (blockAt (imageIn b) n) g))) e
+      subst (Passed k b g at t start held) (same-block (w .number) m at b (w .standing) f)
       (at-end ts ∙ sym (ap (allPassed ts t (pointAs k b held)) (none-left (w .left) (w .stands) h)) ∙ w .same)
     where
       at-end : (ts : List ℕ) → pointAs k b held ≡ allPassed ts t (pointAs k b held) []

@@ -1,12 +1,12 @@
 -- Bytes that tell a history load as it, and what an accepted finish leaves tells the list's; the answers and the skipped count are that
 -- history's too.
 -- Assumes nothing.
-use Prim.Native.Nat.{ℕ, _≤_, _<_}
+use Prim.Native.Nat.{ℕ, suc, _≤_, _<_}
 use mathlib.Core.Path.{_≡_, refl, sym, ap, _∙_, subst}
-use mathlib.Core.Bool.{false, _||_}
-use mathlib.Core.List.{List, [], map}
-use mathlib.Core.Option.{Option, some}
-use borrow.Author.Tests.{le-ltb, lt-leb}
+use mathlib.Core.Bool.{Bool, true, false, _||_}
+use mathlib.Core.List.{List, [], _∷_, map, reverse, reverseAux}
+use mathlib.Core.Option.{Option, some, none}
+use borrow.Author.Tests.{ltb-true, ltb-false, le-ltb, le-leb, lt-leb}
 use lib.ListN.{length, getD}
 use lib.Seq.{sets}
 use lib.Dec.{ltb, leb, eqb}
@@ -14,7 +14,7 @@ use Rattle.lists.specs.Choice.{pick, isSome}
 use Rattle.lists.proofs.ChoiceLaws.{pick-either}
 use Rattle.signal.specs.declared.kind.SignalEncoding.{SignalEncoding}
 use Rattle.signal.specs.declared.kind.SignalEncoding.the-variants.{BitVector, Real, Absent}
-use Rattle.signal.specs.Kind.{absent}
+use Rattle.signal.specs.Kind.{widthOf, absent}
 use Rattle.stream.specs.Entries.{Entry}
 use Rattle.image.specs.Block.{Block}
 use Rattle.image.specs.Image.{Image, image, imageBytes}
@@ -27,11 +27,13 @@ use Rattle.recording.specs.Memory.{Memory, After, refused}
 use Rattle.recording.specs.Refusals.{openTests}
 use Rattle.recording.specs.Step.{Cut, noCut, cuts, cutOf, closing, finishCut, finishOf, startOf, step, kindsOf}
 use Rattle.recording.proofs.TestsLaws.{guarded-either}
-use Rattle.history.specs.History.{History, noHistory, listOf, topOf, keptOf, classOf}
+use Rattle.history.specs.History.{History, noHistory, listOf, topOf, keptOf, classOf, newestUpTo, shownAt}
 use Rattle.loaded.specs.Opener.{kindAt}
 use Rattle.loaded.specs.Loading.{tableFrom, pushed, Load, load, loads, signalClass}
 use Rattle.loaded.specs.EntryBytes.{entriesBytes}
 use Rattle.loaded.specs.Reader.{unknownSignal, loadIn, loadBy, loadOf, loadAfter, loaded, indexIn, tableIn, tableBy, tableOf, tableAfter, counted}
+use Rattle.loaded.specs.Reader.{lastUpTo, entryAt, pointed, cursorFrom, cursorOf}
+use Rattle.loaded.proofs.CursorLaws.{cursor-known}
 use Rattle.loaded.specs.Reader as reader
 use Rattle.model.specs.Model.{Chunk, noChunk, noModel, told}
 use Rattle.model.proofs.LoadLaws.{pushed-kept, allFrom, view, dropped, all-from, drop-from, table-image, class-kept}
@@ -63,6 +65,23 @@ load-is x g l index bytes e u h k =
     (loadAfter (loaded (length (y .entries)) (signalClass y)) (sets index 0 (map indexIn (y .entries))) (sets bytes 0 (entriesBytes (kindAt x g) (signalClass y) (y .entries))))) e
     ∙ pick-false (ltb (length index) (length (l .entries)) || ltb (length bytes) (length (entriesBytes (kindAt x g) (signalClass l) (l .entries)))) _ _
     (or-false _ _ (le-ltb (length index) (length (l .entries)) h) (le-ltb (length bytes) (length (entriesBytes (kindAt x g) (signalClass l) (l .entries))) k))
+
+-- the last entry up to t, looked for from the front as from the back: those that the front search has passed stand newest first in `done`
+found-back : (ts : List ℕ) (t : ℕ) (done es : List Entry) → lastUpTo ts t (newestUpTo ts t done) (length done) es ≡ newestUpTo ts t (reverseAux es done)
+unfolding lastUpTo newestUpTo
+found-back ts t done [] = refl
+found-back ts t done (e ∷ es) =
+    ap (λ (p : Option (ℕ × Entry)). lastUpTo ts t p (suc (length done)) es) (by (ltb t (getD ts (e .index) 0)) refl) ∙ found-back ts t (e ∷ done) es
+  where
+    here : Option (ℕ × Entry)
+    here = some (length done, e)
+
+    by : (b : Bool) → ltb t (getD ts (e .index) 0) ≡ b → pick (leb (getD ts (e .index) 0) t) here (newestUpTo ts t done) ≡ pick b (newestUpTo ts t done) here
+    by true q = rw (lt-leb (getD ts (e .index) 0) t (ltb-true t (getD ts (e .index) 0) q)) refl
+    by false q = rw (le-leb (getD ts (e .index) 0) t (ltb-false t (getD ts (e .index) 0) q)) refl
+
+found-shown : (ts : List ℕ) (t : ℕ) (es : List Entry) → lastUpTo ts t none 0 es ≡ newestUpTo ts t (reverse es)
+found-shown ts t es = unfold newestUpTo in found-back ts t [] es
 
 not-absent : (k : SignalEncoding) → (k ≡ Absent → ⊥) → absent k ≡ false
 not-absent (BitVector w) h = refl
@@ -98,17 +117,26 @@ module _ (ks : List SignalEncoding) (h : History) (b : List ℕ) (f : Told ks h 
   class-is : (g : ℕ) → signalClass (load (h .times) (keptOf h g) (topOf g (h .changes))) ≡ classOf h g
   class-is g = class-kept (listOf g (h .changes)) (topOf g (h .changes))
 
+  known : (g : ℕ) → g < length ks → (getD ks g Absent ≡ Absent → ⊥) → unknownSignal x g ≡ false
+  known g l a = or-false (leb (length ks) g) (absent (getD ks g Absent)) (lt-leb (length ks) g l) (not-absent (getD ks g Absent) a)
+
   signal-loads : (g : ℕ) (index bytes : List ℕ) → g < length ks → (getD ks g Absent ≡ Absent → ⊥)
       → length (keptOf h g) ≤ length index → length (keptBytes ks h g) ≤ length bytes
       → loadOf b g index bytes
       ≡ loadAfter (loaded (length (keptOf h g)) (classOf h g)) (sets index 0 (map indexIn (keptOf h g))) (sets bytes 0 (keptBytes ks h g))
   signal-loads g index bytes l a i j =
       let c = class-is g in
-      let u : unknownSignal x g ≡ false = or-false (leb (length ks) g) (absent (getD ks g Absent)) (lt-leb (length ks) g l) (not-absent (getD ks g Absent) a) in
       ap (λ (o : Option Image). loadBy o g index bytes) parsed
-      ∙ load-is x g (load (h .times) (keptOf h g) (topOf g (h .changes))) index bytes (signal-load g l) u i
+      ∙ load-is x g (load (h .times) (keptOf h g) (topOf g (h .changes))) index bytes (signal-load g l) (known g l a) i
       (subst (λ (n : ℕ). length (entriesBytes (getD ks g Absent) n (keptOf h g)) ≤ length bytes) (sym c) j)
       ∙ ap (λ (n : ℕ). loadAfter (loaded (length (keptOf h g)) n) (sets index 0 (map indexIn (keptOf h g))) (sets bytes 0 (entriesBytes (getD ks g Absent) n (keptOf h g)))) c
+
+  cursor-shows : (g t : ℕ) (out : List ℕ) → g < length ks → (getD ks g Absent ≡ Absent → ⊥) → widthOf (getD ks g Absent) ≤ length out
+      → cursorOf b g t out ≡ pointed (h .times) (shownAt h g t) out
+  cursor-shows g t out l a w =
+      ap (λ (o : Option Image). cursorFrom o g t out) parsed
+      ∙ cursor-known x g t out (known g l a) w ∙ ap (λ (y : Load). pointed (y .times) (entryAt y t) out) (signal-load g l)
+      ∙ ap (λ (o : Option (ℕ × Entry)). pointed (h .times) o out) (found-shown (h .times) t (keptOf h g))
 
   pub told-loads : LoadsAs ks h b
   told-loads = record {
@@ -116,6 +144,7 @@ module _ (ks : List SignalEncoding) (h : History) (b : List ℕ) (f : Told ks h 
     rising = subst Rising (f .table) (table-rises (f .limit) ks (f .blocks) (f .valid .blocks));
     table = table-loads;
     signals = signal-loads;
+    cursor = cursor-shows;
   }
 
 -- finished blocks that join to a history tell it

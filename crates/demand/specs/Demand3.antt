@@ -1,6 +1,6 @@
 -- Demand 3 of document 00: what a list of a recording's calls leaves loads as the list's history; with document 02's joins: what is joined loads
 -- as one history after the other. It is stated over the definitions that the contracts cite: startOf, and step and run, which are made of
--- timeOf, changeOf and finishOf (crate recording); joinOf (joined); openOf, loadOf and tableOf (loaded); and over the history (history).
+-- timeOf, changeOf and finishOf (crate recording); joinOf (joined); openOf, loadOf, tableOf and cursorOf (loaded); and over the history (history).
 -- Assumes nothing.
 use Prim.Native.Nat.{ℕ, _≤_, _<_, _*_, _^_}
 use mathlib.Core.Path.{_≡_}
@@ -20,11 +20,11 @@ use Rattle.recording.specs.declared.SignalRecord.{SignalRecord}
 use Rattle.recording.specs.Calls.{Call, finish, started, total, refusals, heard, Slice, Fitting}
 use Rattle.recording.specs.Memory.{Memory}
 use Rattle.recording.specs.Step.{startOf, step, run, Ran, kindsOf}
-use Rattle.history.specs.History.{History, noHistory, Telling, tellAll, keptOf, classOf}
+use Rattle.history.specs.History.{History, noHistory, Telling, tellAll, keptOf, classOf, shownAt}
 use Rattle.history.specs.Followed.{followed}
 use Rattle.loaded.specs.Opener.{openOf}
 use Rattle.loaded.specs.EntryBytes.{entriesBytes}
-use Rattle.loaded.specs.Reader.{loadOf, loadAfter, loaded, indexIn, tableOf, tableAfter, counted}
+use Rattle.loaded.specs.Reader.{loadOf, loadAfter, loaded, indexIn, tableOf, tableAfter, counted, cursorOf, pointed}
 use Rattle.joined.specs.Join.{joined, joinOf}
 
 -- a state and a record as their types can hold them
@@ -91,6 +91,9 @@ pub record LoadsAs (ks : List SignalEncoding) (h : History) (b : List ℕ) : Typ
       → length (keptOf h g) ≤ length index → length (keptBytes ks h g) ≤ length bytes
       → loadOf b g index bytes
       ≡ loadAfter (loaded (length (keptOf h g)) (classOf h g)) (sets index 0 (map indexIn (keptOf h g))) (sets bytes 0 (keptBytes ks h g))
+  -- the cursor, which demand 3 does not name: it shows the last kept change at or before t, as the history finds it; how it is answered is `pointed`
+  pub cursor : (g t : ℕ) (out : List ℕ) → g < length ks → (getD ks g Absent ≡ Absent → ⊥) → widthOf (getD ks g Absent) ≤ length out
+      → cursorOf b g t out ≡ pointed (h .times) (shownAt h g t) out
 
 -- "left by a list of calls, or joined from accepted images": what such bytes tell, by kinds and history
 pub data Tells : List SignalEncoding → History → List ℕ → Type 0 where

@@ -3,6 +3,7 @@
 use mathlib.Core.Path.{_≡_, refl}
 use mathlib.Core.Bool.{Bool, false}
 use mathlib.Core.List.{List, [], _∷_}
+use mathlib.Core.Option.{some, none}
 use Rattle.lists.specs.Last.{lastOr}
 use Rattle.lists.specs.Same.{same}
 use Rattle.value.specs.Symbol.{symbolOf}
@@ -16,7 +17,7 @@ use Rattle.stream.specs.Entries.{entry}
 use Rattle.recording.specs.Calls.{time, change, wayOf, taken, back, recorded, skipped}
 use Rattle.recording.specs.Calls as calls
 use Rattle.recording.specs.Runs.{skips}
-use Rattle.history.specs.History.{noHistory, tell, tellAll, listOf, keptAfter, kept, keptOf, topOf, classOf}
+use Rattle.history.specs.History.{noHistory, tell, tellAll, listOf, keptAfter, kept, keptOf, topOf, classOf, newestUpTo, shownAt}
 
 -- the history of `skips`, none refused: the same answers and count; the second 1 repeats the first and is not kept
 abbrev none-refused : List Bool
@@ -45,3 +46,17 @@ pub claim-counts : let h = tellAll (BitVector 1 ∷ []) noHistory (time 1 ∷ ch
     (keptOf h 0 ≡ entry 0 (symbols (1 ∷ [])) ∷ []) × (classOf h 0 ≡ 2)
 unfolding symbolOf classOfAll symbolsIn lastOr vcdBit numberOf digits unpacked rawSymbols allSymbols decode wayOf tell tellAll same listOf keptAfter kept topOf
 claim-counts = (refl, refl)
+
+-- two times, an event at the first and two at the second: before the first none, at its time it, from the second time on the last
+pub events-shown : let h =
+    tellAll (BitVector 0 ∷ []) noHistory (time 5 ∷ change 0 (vcd []) ∷ time 7 ∷ change 0 (vcd []) ∷ change 0 (vcd []) ∷ []) (false ∷ false ∷ false ∷ false ∷ false ∷ []) .last in
+    (shownAt h 0 4 ≡ none) × (shownAt h 0 5 ≡ some (0, entry 0 happened)) × (shownAt h 0 6 ≡ some (0, entry 0 happened)) × (shownAt h 0 7 ≡ some (2, entry 1 happened))
+unfolding lastOr decode wayOf tell tellAll same listOf keptAfter kept newestUpTo
+events-shown = (refl, refl, refl, refl)
+
+-- a repeat is not kept: from its time on the change that it repeats is shown still
+pub repeat-shown : let h =
+    tellAll (BitVector 1 ∷ []) noHistory (time 5 ∷ change 0 (vcd (49 ∷ [])) ∷ time 7 ∷ change 0 (vcd (49 ∷ [])) ∷ []) (false ∷ false ∷ false ∷ false ∷ []) .last in
+    (shownAt h 0 4 ≡ none) × (shownAt h 0 7 ≡ some (0, entry 0 (symbols (1 ∷ []))))
+unfolding symbolOf classOfAll symbolsIn lastOr vcdBit decode wayOf tell tellAll same listOf keptAfter kept newestUpTo
+repeat-shown = (refl, refl)

@@ -4,9 +4,10 @@
 -- Assumes nothing.
 use Prim.Native.Nat.{ℕ, _-_, max}
 use mathlib.Core.Bool.{Bool, true, false}
-use mathlib.Core.List.{List, [], _∷_, _++_}
+use mathlib.Core.List.{List, [], _∷_, _++_, reverse}
+use mathlib.Core.Option.{Option, some, none}
 use lib.ListN.{length, getD}
-use lib.Dec.{eqb}
+use lib.Dec.{eqb, ltb}
 use Rattle.lists.specs.Choice.{pick}
 use Rattle.signal.specs.declared.kind.SignalEncoding.{SignalEncoding}
 use Rattle.signal.specs.declared.kind.SignalEncoding.the-variants.{Absent}
@@ -122,3 +123,14 @@ topOf g (c ∷ cs) = max (pick (eqb (c .signal) g) (c .class) 0) (topOf g cs)
 
 abbrev pub classOf : History → (signal : ℕ) → ℕ
 classOf h g = orNine (listOf g (h .changes)) (topOf g (h .changes))
+
+-- ---- what is shown at a time
+
+-- of changes from the newest to the oldest, the first that is not after t, with how many stand before it in call order
+unfoldable pub newestUpTo : (times : List ℕ) (t : ℕ) → List Entry → Option (ℕ × Entry)
+newestUpTo ts t [] = none
+newestUpTo ts t (e ∷ es) = pick (ltb t (getD ts (e .index) 0)) (newestUpTo ts t es) (some (length es, e))
+
+-- document 02, (a): the kept change that stands at t, and its number; none before the first
+abbrev pub shownAt : History → (signal t : ℕ) → Option (ℕ × Entry)
+shownAt h g t = newestUpTo (h .times) t (reverse (keptOf h g))

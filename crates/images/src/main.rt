@@ -54,8 +54,8 @@ fn take_sheet(sheet: &[u8]) {
     take_lines(sheet, &mut space);
 }
 
-fn zeros() -> [u8; 409600] {
-    [0u8; 409600]
+fn zeros() -> [u8; 425984] {
+    [0u8; 425984]
 }
 
 fn main() {

@@ -75,7 +75,7 @@ pub extern "C" fn wejumo_stream(image: &[u8], block: u32, signal: u32) -> PartNu
     wejumo_opened_stream(image, block, signal)
 }
 
-// The last entry of a signal at or before a time, or its first. 11, 4, 9.
+// The last entry of a signal at or before a time, or nothing. 11, 4, 9.
 #[no_mangle]
 pub extern "C" fn wejumo_cursor(
     image: &[u8],

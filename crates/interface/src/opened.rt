@@ -101,7 +101,7 @@ pub extern "C" fn wejumo_opened_stream(image: &[u8], block: u32, signal: u32) ->
     part_numbers(part_in(image, block_start(image, block), signal))
 }
 
-// The last entry of a signal at or before a time, or its first. 4, 9.
+// The last entry of a signal at or before a time, or nothing. 4, 9.
 #[no_mangle]
 pub extern "C" fn wejumo_opened_cursor(
     image: &[u8],

@@ -3,7 +3,7 @@
 -- Assumes nothing.
 use Prim.Native.Nat.{ℕ}
 use mathlib.Core.Path.{_≡_, refl, ap}
-use mathlib.Core.List.{List, [], _∷_}
+use mathlib.Core.List.{List}
 use mathlib.Core.Option.{Option, some, none}
 use lib.ListN.{length, getD}
 use lib.Seq.{sets}
@@ -18,7 +18,7 @@ use Rattle.stream.specs.Entries.{Entry}
 use Rattle.image.specs.Image.{Image}
 use Rattle.codec.specs.Parse.{parse}
 use Rattle.loaded.specs.Reader.{LoadReply, LoadAfter, loadAfter, loaded, TableReply, TableAfter, tableAfter, counted, shownAs}
-use Rattle.loaded.specs.Reader.{CursorReply, CursorAfter, cursorAfter, unknownSignal, lastBefore, pointedIn, cursorIn, cursorOf}
+use Rattle.loaded.specs.Reader.{CursorReply, CursorAfter, cursorAfter, unknownSignal, entryAt, pointed, cursorIn, cursorOf}
 use Rattle.loaded.specs.Opener.{kindAt}
 use Rattle.loaded.specs.Loading.{loads}
 use Rattle.loaded.specs.EntryBytes.{entryOf}
@@ -74,22 +74,19 @@ CursorBack a = readCursor (cursorNumbersOf (a .reply)) ≡ a .reply
 abbrev EntryBack : EntryAfter → Type 0
 EntryBack a = readEntry (entryNumbersOf (a .reply)) ≡ a .reply
 
-pointed-back : (times : List ℕ) (t : ℕ) (es : List Entry) (out : List ℕ) → CursorBack (pointedIn times t es out)
-pointed-back times t [] out = refl
-pointed-back times t (e ∷ es) out =
-    let n = lastBefore times t 0 0 (e ∷ es) in
-    let f = getD (e ∷ es) n e in
-    ap (read.CursorReply.found n (getD times (f .index) 0)) (content-back (f .content))
+pointed-back : (times : List ℕ) (found : Option (ℕ × Entry)) (out : List ℕ) → CursorBack (pointed times found out)
+pointed-back times none out = refl
+pointed-back times (some q) out = ap (read.CursorReply.found (q .0) (getD times (q .1 .index) 0)) (content-back (q .1 .content))
 
 cursor-back-in : (x : Option Image) (signal t : ℕ) (out : List ℕ) → CursorBack (read.cursorFrom x signal t out)
 unfolding cursorIn
 cursor-back-in none signal t out = refl
 cursor-back-in (some x) signal t out =
     let l = loads signal (x .blocks) in
-    let inside = pointedIn (l .times) t (l .entries) out in
+    let inside = pointed (l .times) (entryAt l t) out in
     let narrow = ltb (length out) (widthOf (kindAt x signal)) in
     pick-either CursorBack (unknownSignal x signal) (cursorAfter (read.CursorReply.refuse 4) out) (pick narrow (cursorAfter (read.CursorReply.refuse 9) out) inside) refl
-    (pick-either CursorBack narrow (cursorAfter (read.CursorReply.refuse 9) out) inside refl (pointed-back (l .times) t (l .entries) out))
+    (pick-either CursorBack narrow (cursorAfter (read.CursorReply.refuse 9) out) inside refl (pointed-back (l .times) (entryAt l t) out))
 
 pub cursor-back : (image : List ℕ) (signal t : ℕ) (out : List ℕ) → CursorBack (cursorOf image signal t out)
 cursor-back image signal t out = cursor-back-in (parse image) signal t out

@@ -165,7 +165,7 @@ fn content_numbers(entry: Entry) -> ContentNumbers
     }
 }
 
-// The answer of the cursor: 10, 11 where the signal has no entry, or 0 with the refusal's number.
+// The answer of the cursor: 10, 11 where no entry is at or before the time, or 0 with the refusal's number.
 pub fn cursor_numbers(answer: CursorAnswer) -> CursorNumbers
     ensures { λ r. ⌜ r ≡ cursorNumbersOf (cursorReply answer) ⌝ }
 {

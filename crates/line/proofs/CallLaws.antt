@@ -10,11 +10,11 @@ use lib.ListN.{length, getD}
 use Rattle.lists.specs.Choice.{pick}
 use Rattle.lists.specs.Same.{same}
 use Rattle.ascii.specs.Ascii.{ascii}
+use Rattle.digits.specs.Numbers.{numberTo}
+use Rattle.digits.specs.declared.Number.{Number}
+use Rattle.digits.specs.declared.Number32.{Number32}
+use Rattle.digits.specs.Value.{valueIn, valueIn32}
 use Rattle.line.specs.Words.{word}
-use Rattle.line.specs.Numbers.{numberTo}
-use Rattle.line.specs.declared.number.Number.{Number}
-use Rattle.line.specs.declared.number.Number32.{Number32}
-use Rattle.line.specs.Command.{valueIn, valueIn32}
 use Rattle.line.specs.Line.{number32, nothing, finish, notUnderstood, lendOf, startOf, timeOf, vcdOf, rawOf, realOf, callOf, lineOf}
 
 module _ (l : List ℕ) where

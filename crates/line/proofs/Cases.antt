@@ -7,8 +7,8 @@ use lib.ListN.{length, replicate}
 use Rattle.lists.specs.Same.{same}
 use Rattle.ascii.specs.Ascii.{ascii}
 use Rattle.signal.specs.declared.kind.SignalEncoding.the-variants.{BitVector, Real, Absent}
+use Rattle.digits.specs.Numbers.{digitOf, digitsFrom, numberOf, numberTo, hexBytes, bitsOf}
 use Rattle.line.specs.Words.{wordOf, pastWord, after, wordsOf}
-use Rattle.line.specs.Numbers.{digitOf, digitsFrom, numberOf, numberTo, hexBytes, bitsOf}
 use Rattle.line.specs.Line.{Line, nothing, lend, start, time, vcd, raw, real, finish, notUnderstood, lendOf, kindOf, kindsOf, kindsIn, startOf, timeOf, vcdOf, rawOf, realOf, callOf, lineOf}
 
 -- lines, each with what it says; a carriage return is a byte of its line

@@ -12,7 +12,7 @@ use lib.ListN.{length, getD, drop, drop-of-length-le}
 use lib.Seq.{drop-cons}
 use Rattle.lists.specs.Choice.{bind, isSome, orEmpty}
 use Rattle.lists.proofs.ChoiceLaws.{some-there, none-there}
-use Rattle.line.specs.Numbers.{digitOf, hexBytes}
+use Rattle.digits.specs.Numbers.{digitOf, hexBytes}
 use Rattle.line.specs.Command.{bytesIn}
 
 drop-two : (s : List ℕ) (i : ℕ) → suc i < length s → drop i s ≡ getD s i 0 ∷ getD s (suc i) 0 ∷ drop (suc (suc i)) s

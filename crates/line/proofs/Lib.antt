@@ -1,5 +1,4 @@
 pub mod WordLaws
-pub mod NumberLaws
 pub mod HexLaws
 pub mod KindLaws
 pub mod CallLaws

@@ -9,25 +9,13 @@ use Rattle.value.specs.declared.states.States.the-variants.{Two}
 use Rattle.signal.specs.declared.kind.SignalEncoding.{SignalEncoding}
 use Rattle.recording.specs.declared.SignalRecord.{SignalRecord}
 use Rattle.recording.specs.Memory.{recordOf}
-use Rattle.line.specs.declared.number.Number.{Number}
-use Rattle.line.specs.declared.number.Number.the-variants as number
-use Rattle.line.specs.declared.number.Number32.{Number32}
-use Rattle.line.specs.declared.number.Number32.the-variants as number32
+use Rattle.digits.specs.Numbers.{hexBytes}
 use Rattle.line.specs.declared.kinds.MaybeKind.{MaybeKind}
 use Rattle.line.specs.declared.kinds.MaybeKind.the-variants as kind
 use Rattle.line.specs.declared.Command.{Command}
 use Rattle.line.specs.declared.Command.the-variants as command
 use Rattle.line.specs.Words.{after}
-use Rattle.line.specs.Numbers.{hexBytes}
 use Rattle.line.specs.Line.{Line, nothing, lend, start, time, vcd, raw, real, finish, notUnderstood, kindsIn}
-
-abbrev pub valueIn : Number → Option ℕ
-valueIn (number.Value n) = some n
-valueIn number.None = none
-
-abbrev pub valueIn32 : Number32 → Option ℕ
-valueIn32 (number32.Value n) = some n
-valueIn32 number32.None = none
 
 abbrev pub kindInside : MaybeKind → Option SignalEncoding
 kindInside (kind.Some k) = some k

@@ -10,8 +10,8 @@ use Rattle.lists.specs.Same.{same}
 use Rattle.ascii.specs.Ascii.{ascii}
 use Rattle.signal.specs.declared.kind.SignalEncoding.{SignalEncoding}
 use Rattle.signal.specs.declared.kind.SignalEncoding.the-variants.{BitVector, Real, Absent}
+use Rattle.digits.specs.Numbers.{numberTo, hexBytes, bitsOf}
 use Rattle.line.specs.Words.{after, word, wordsOf}
-use Rattle.line.specs.Numbers.{numberTo, hexBytes, bitsOf}
 
 pub data Line : Type 0 where
   -- a comment or an empty line

@@ -1,11 +1,11 @@
 // Bytes as pairs of hexadecimal digits.
-use crate::number::digit;
+use digits::digit;
 ghost use mathlib.Core.Path.{_≡_};
 ghost use Prim.Native.Nat.{_+_, _<_};
 ghost use lib.ListN.{length, set};
 ghost use lib.Seq.{sets};
 ghost use Rattle.lists.specs.Choice.{isSome};
-ghost use Rattle.line.specs.Numbers.{hexBytes};
+ghost use Rattle.digits.specs.Numbers.{hexBytes};
 ghost use Rattle.line.specs.Command.{bytesIn};
 
 // All are pairs of digits.

@@ -1,9 +1,9 @@
 // The kinds of a start, which are the words of its line after the third, and the records that they become.
-use crate::number::Number32;
-use crate::number::decimal_32;
 use crate::words::count_words;
 use crate::words::spells;
 use crate::words::word;
+use digits::Number32;
+use digits::decimal_32;
 use recording::SignalRecord;
 use signal::SignalRef;
 use signal::kind::SignalEncoding;

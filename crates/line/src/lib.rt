@@ -5,16 +5,15 @@
 // The contracts cite specs/Line.antt. No public function has a `requires`.
 pub mod hex;
 pub mod kinds;
-pub mod number;
 pub mod words;
 
+use digits::Number;
+use digits::Number32;
+use digits::bits;
+use digits::decimal;
+use digits::decimal_32;
 use hex::is_hex;
 use kinds::has_kinds;
-use number::Number;
-use number::Number32;
-use number::bits;
-use number::decimal;
-use number::decimal_32;
 use words::after;
 use words::spells;
 use words::word;

@@ -1,20 +1,19 @@
 -- The whole listing, and into a lent buffer.
 -- Assumes nothing.
 use Prim.Native.Nat.{ℕ, _≤_, _<_}
-use mathlib.Core.Path.{_≡_, refl, ap, _∙_}
+use mathlib.Core.Path.{_≡_, refl}
 use mathlib.Core.List.{List}
 use mathlib.Core.Option.{none}
 use native.Mathlib.Omega.{arith}
 use borrow.Author.Tests.{lt-leb, le-leb}
 use lib.Dec.{leb}
-use lib.ListN.{length, take}
+use lib.ListN.{length}
 use lib.Seq.{sets}
 use Rattle.lists.specs.Bytes.{Bytes}
 use Rattle.lists.proofs.ChoiceLaws.{pick-same}
-use Rattle.lists.proofs.SetsLaws.{taken-back}
 use Rattle.ascii.specs.Ascii.{ascii}
 use Rattle.ascii.specs.Put.{Room, Puts}
-use Rattle.ascii.proofs.PutLaws.{puts-length}
+use Rattle.ascii.proofs.PutLaws.{TextRead, text-read}
 use Rattle.codec.specs.Parse.{parse}
 use Rattle.walk.specs.Walk.{imageIn}
 use Rattle.walk.proofs.OpenLaws.{parse-opened}
@@ -51,13 +50,5 @@ into-long t out after n e h a = rw (le-leb (length t) (length out) (omega arith)
 
 -- ---- the text as it was made, of n bytes
 
-pub record TextRead (b : List ℕ) (n : ℕ) (made : List ℕ) : Type 0 where
-  pub is : take n made ≡ listingOf b
-  pub count : n ≡ length (listingOf b)
-  pub inside : n ≤ length made
-
-pub text-read : (b text : List ℕ) (n : ℕ) (made : List ℕ) → Bytes b → listingLimit ≤ length text → Puts (listingOf b) 0 text n made → TextRead b n made
-text-read b text n made y h x =
-    let e : n ≡ length (listingOf b) = omega (arith, x .place) in
-    let room : n ≤ length text = omega (arith, listing-fits b y) in
-    record { is = ap (take n) (x .held) ∙ taken-back (listingOf b) text n e room; count = e; inside = omega (arith, puts-length x) }
+pub listing-read : (b text : List ℕ) (n : ℕ) (made : List ℕ) → Bytes b → listingLimit ≤ length text → Puts (listingOf b) 0 text n made → TextRead (listingOf b) n made
+listing-read b text n made y h x = text-read (listingOf b) text n made (omega (arith, listing-fits b y)) x

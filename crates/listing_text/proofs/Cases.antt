@@ -33,7 +33,7 @@ bench-listing = ap textOf bench-parse
 
 -- an event, a real, an absent signal, a vector of class Nine, a vector without changes; B 2, times 5 7 and 7 with the largest one. The real
 -- is 0.0, then -0.0, which the second block repeats
-abbrev allKinds : Image
+abbrev pub allKinds : Image
 allKinds =
     image 2 (BitVector 0 ∷ Real ∷ Absent ∷ BitVector 3 ∷ BitVector 1 ∷ [])
     (block (5 ∷ 7 ∷ [])
@@ -53,12 +53,12 @@ decided : {A : Type 0} (d : Dec A) → isYes d ≡ true → A
 decided (yes a) e = a
 decided (no n) e = absurd (false-true e)
 
-kinds-valid : Valid allKinds
+pub kinds-valid : Valid allKinds
 unfolding valid? blocksFit? blockFits? starts? rising? risingFrom? eachBelow? partsFit? partFits? entriesFit? entryFits? contentFits? knownKinds? lastOr classOfAll allSymbols
     imageBytes blocksBytes streamedParts streamBytes headBytes blockBytes les dataOf offsetsFrom le lebOf groups changeBytes packed digits numberOf
 kinds-valid = decided (valid? allKinds) refl
 
-kinds-bytes : length (imageBytes allKinds) ≡ 172
+pub kinds-bytes : length (imageBytes allKinds) ≡ 172
 unfolding imageBytes blocksBytes streamedParts streamBytes headBytes blockBytes les dataOf offsetsFrom le lebOf groups changeBytes packed digits numberOf classOfAll
 kinds-bytes = refl
 

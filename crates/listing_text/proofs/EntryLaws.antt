@@ -71,7 +71,7 @@ value-is : (k : SignalEncoding) (c : ℕ) (b out : List ℕ) → isEntry k c b �
 unfolding entryValueOf
 value-is k c b out h w = rw (le-ltb (length out) (widthOf k) w, h) refl
 
-words-of : (a : Content) → shownWords (shownAs a) (symbolsOf a) ≡ contentWords a
+pub words-of : (a : Content) → shownWords (shownAs a) (symbolsOf a) ≡ contentWords a
 words-of happened = refl
 words-of (symbols s) = refl
 words-of (bits b) = refl

@@ -60,7 +60,7 @@ loads-unknown x g index bytes u = rw u refl
 
 -- ---- a loaded signal
 
-wide-most : (k : SignalEncoding) → knownKind k ≡ true → widthOf k ≤ 65536
+pub wide-most : (k : SignalEncoding) → knownKind k ≡ true → widthOf k ≤ 65536
 wide-most (BitVector w) h = leb-true w 65536 h
 wide-most Real h = omega arith
 wide-most Absent h = omega arith

@@ -49,7 +49,7 @@ fn put_letters(out: &mut [u8], at: usize, symbols: &[u8]) -> usize
 }
 
 // An answered entry, whose symbols stand beside it.
-fn put_shown(out: &mut [u8], at: usize, shown: Entry, symbols: &[u8]) -> usize
+pub fn put_shown(out: &mut [u8], at: usize, shown: Entry, symbols: &[u8]) -> usize
     requires { ⌜ (allSymbols (now symbols) ≡ true) × Room (shownWords (entryReply shown) (now symbols)) at (now out) ⌝ }
     ensures { λ r. ⌜ Puts (shownWords (entryReply shown) (now (symbols .entry))) at (now (out .entry)) r (now (out .exit)) ⌝ }
 {

@@ -8,7 +8,7 @@ ghost use Rattle.ascii.specs.Put.{Room, Puts};
 ghost use Rattle.listing_text.specs.Listing.{headLine, timeLine, timeLines, vectorWords, kindWords, signalLine};
 
 // Words, and a number after them.
-fn put_named(out: &mut [u8], at: usize, words: &[u8], n: u64) -> usize
+pub fn put_named(out: &mut [u8], at: usize, words: &[u8], n: u64) -> usize
     requires { ⌜ Room (now words ++ decimal n) at (now out) ⌝ }
     ensures { λ r. ⌜ Puts (now (words .entry) ++ decimal n) at (now (out .entry)) r (now (out .exit)) ⌝ }
 {

@@ -24,10 +24,11 @@ use Rattle.codec.specs.Layout.{lengths, layoutForm}
 use Rattle.codec.specs.ImageForm.{stream, blockForm, headForm, imageForm}
 use Rattle.codec.specs.Valid.{risingFrom?, rising?, eachBelow?, knownKinds?, contentFits?, entryFits?, entriesFit?, partFits?, partsFit?, starts?, blockFits?, blocksFit?, valid?}
 use Rattle.codec.specs.Parse.{parse}
+use Rattle.codec.proofs.Cases.{opened, of}
 use Rattle.loaded.specs.Opener.{streamOf}
 use Rattle.loaded.specs.Loading.{tableFrom, moved, repeatsLast, pushed, loadFrom}
 use Rattle.loaded.specs.EntryBytes.{entryBytes, entriesBytes}
-use Rattle.loaded.specs.Reader.{loadOf, loadAfter, loaded, loadIn, tableOf, tableAfter, counted, tableIn, cursorOf, cursorAfter, found, nothing, event, vector, lastBefore, cursorIn}
+use Rattle.loaded.specs.Reader.{loadOf, loadAfter, loaded, loadIn, tableOf, tableAfter, counted, tableIn, cursorOf, cursorAfter, found, nothing, event, vector, lastUpTo, cursorIn}
 use Rattle.loaded.specs.Reader as reader
 
 -- widths 1 and 4, B 4; time 10, "1", "b1x"; time 20, second "b0001"
@@ -80,15 +81,18 @@ unfolding parse imageForm headForm blockForm layoutForm repeat each lengths unle
     contentFits? entryFits? entriesFit? partFits? partsFit? starts? blockFits? blocksFit? valid? streamOf
 bench-streams = (refl, refl, refl)
 
--- at 9, before the first: entry 0 with its time 10; at 19 entry 0; at 20 entry 1; a buffer of three bytes is too short
-pub bench-cursor : (cursorOf benchBytes 1 9 (7 ∷ 7 ∷ 7 ∷ 7 ∷ 7 ∷ []) ≡ cursorAfter (found 0 10 (vector 1 0)) (0 ∷ 0 ∷ 1 ∷ 2 ∷ 7 ∷ []))
+-- at 9, before the first change, none, and a buffer of just the width keeps what it holds; at 10 and 19 entry 0; at 20 entry 1; a buffer of
+-- three bytes is too short, even for none
+pub bench-cursor : (cursorOf benchBytes 1 9 (7 ∷ 7 ∷ 7 ∷ 7 ∷ []) ≡ cursorAfter nothing (7 ∷ 7 ∷ 7 ∷ 7 ∷ []))
+    × (cursorOf benchBytes 1 9 (7 ∷ 7 ∷ 7 ∷ []) ≡ cursorAfter (reader.refuse 9) (7 ∷ 7 ∷ 7 ∷ []))
+    × (cursorOf benchBytes 1 10 (7 ∷ 7 ∷ 7 ∷ 7 ∷ 7 ∷ []) ≡ cursorAfter (found 0 10 (vector 1 0)) (0 ∷ 0 ∷ 1 ∷ 2 ∷ 7 ∷ []))
     × (cursorOf benchBytes 1 19 (7 ∷ 7 ∷ 7 ∷ 7 ∷ []) ≡ cursorAfter (found 0 10 (vector 1 0)) (0 ∷ 0 ∷ 1 ∷ 2 ∷ []))
     × (cursorOf benchBytes 1 20 (7 ∷ 7 ∷ 7 ∷ 7 ∷ []) ≡ cursorAfter (found 1 20 (vector 0 0)) (0 ∷ 0 ∷ 0 ∷ 1 ∷ []))
     × (cursorOf benchBytes 1 20 (7 ∷ 7 ∷ 7 ∷ []) ≡ cursorAfter (reader.refuse 9) (7 ∷ 7 ∷ 7 ∷ []))
 unfolding parse imageForm headForm blockForm layoutForm repeat each lengths unle readLeb stream getChain readChange valueAfter unpacked classOfAll allSymbols digits numberOf lastOr
     imageBytes blocksBytes streamedParts streamBytes headBytes blockBytes les dataOf offsetsFrom le lebOf groups changeBytes packed risingFrom? rising? eachBelow? knownKinds?
-    contentFits? entryFits? entriesFit? partFits? partsFit? starts? blockFits? blocksFit? valid? moved repeatsLast pushed loadFrom lastBefore cursorIn same
-bench-cursor = (refl, refl, refl, refl)
+    contentFits? entryFits? entriesFit? partFits? partsFit? starts? blockFits? blocksFit? valid? moved repeatsLast pushed loadFrom lastUpTo cursorIn same
+bench-cursor = (refl, refl, refl, refl, refl, refl)
 
 -- a vector of width 1, an event, a vector of width 1, a real, an absent signal; B 2, times 1 2 and 2 3. The first vector: x at 1, 1 at 2,
 -- and in the second block 1 and x at 3; the event at 2; the second vector x at 1
@@ -113,13 +117,27 @@ unfolding parse imageForm headForm blockForm layoutForm repeat each lengths unle
     tableIn streamOf
 blocks-load = (refl, refl, refl, refl, refl, refl, refl, refl)
 
--- of the entries up to a time the last; an event and "none" leave the buffer
+-- of the entries up to a time the last; an event before its first is none; an event and "none" leave the buffer
 pub blocks-cursor : (cursorOf twoBlocks 0 2 (9 ∷ []) ≡ cursorAfter (found 1 2 (vector 0 0)) (1 ∷ []))
     × (cursorOf twoBlocks 0 0xffffffffffffffff (9 ∷ 9 ∷ []) ≡ cursorAfter (found 2 3 (vector 1 0)) (2 ∷ 9 ∷ []))
-    × (cursorOf twoBlocks 1 0 (9 ∷ []) ≡ cursorAfter (found 0 2 (event 0)) (9 ∷ []))
+    × (cursorOf twoBlocks 1 1 [] ≡ cursorAfter nothing [])
+    × (cursorOf twoBlocks 1 2 (9 ∷ []) ≡ cursorAfter (found 0 2 (event 0)) (9 ∷ []))
     × (cursorOf twoBlocks 3 5 (9 ∷ []) ≡ cursorAfter nothing (9 ∷ []))
+    -- 4 of an absent signal, 11 of bytes that are no image
+    × (cursorOf twoBlocks 4 5 (9 ∷ []) ≡ cursorAfter (reader.refuse 4) (9 ∷ []))
+    × (cursorOf [] 0 5 (9 ∷ []) ≡ cursorAfter (reader.refuse 11) (9 ∷ []))
 unfolding parse imageForm headForm blockForm layoutForm repeat each lengths unle readLeb stream getChain readChange valueAfter unpacked classOfAll allSymbols digits numberOf lastOr
     imageBytes blocksBytes streamedParts streamBytes headBytes blockBytes les dataOf offsetsFrom le lebOf groups changeBytes packed risingFrom? rising? eachBelow? knownKinds?
-    contentFits? entryFits? entriesFit? partFits? partsFit? starts? blockFits? blocksFit? valid? moved repeatsLast pushed loadFrom entryBytes entriesBytes loadIn same lastBefore
+    contentFits? entryFits? entriesFit? partFits? partsFit? starts? blockFits? blocksFit? valid? moved repeatsLast pushed loadFrom entryBytes entriesBytes loadIn same lastUpTo
     cursorIn
-blocks-cursor = (refl, refl, refl, refl)
+blocks-cursor = (refl, refl, refl, refl, refl, refl, refl)
+
+-- width 1, B 2: at time 5 "1" and "0", of which the cursor shows the last
+abbrev twice : List ℕ
+twice = opened 2 (1 ∷ []) 1 (of (5 ∷ []) (1 ∷ []) (0x00 ∷ 0x01 ∷ 0x00 ∷ []))
+
+pub twice-cursor : (cursorOf twice 0 4 (9 ∷ []) ≡ cursorAfter nothing (9 ∷ [])) × (cursorOf twice 0 5 (9 ∷ []) ≡ cursorAfter (found 1 5 (vector 0 0)) (0 ∷ []))
+unfolding parse imageForm headForm blockForm layoutForm repeat each lengths unle readLeb stream getChain readChange valueAfter unpacked classOfAll allSymbols digits numberOf lastOr
+    imageBytes blocksBytes streamedParts streamBytes headBytes blockBytes les dataOf offsetsFrom le lebOf groups changeBytes packed risingFrom? rising? eachBelow? knownKinds?
+    contentFits? entryFits? entriesFit? partFits? partsFit? starts? blockFits? blocksFit? valid? moved repeatsLast pushed loadFrom same lastUpTo cursorIn
+twice-cursor = (refl, refl)

@@ -23,7 +23,7 @@ use Rattle.codec.specs.Parse.{parse}
 use Rattle.codec.proofs.Cases.{opened, of}
 use Rattle.loaded.specs.Loading.{tableFrom, moved, repeatsLast, pushed, loadFrom}
 use Rattle.loaded.specs.EntryBytes.{entryBytes, entriesBytes}
-use Rattle.loaded.specs.Reader.{loadOf, loadAfter, loaded, loadIn, tableOf, tableAfter, counted, tableIn, cursorOf, cursorAfter, found, vector, lastBefore, cursorIn}
+use Rattle.loaded.specs.Reader.{loadOf, loadAfter, loaded, loadIn, tableOf, tableAfter, counted, tableIn, cursorOf, cursorAfter, found, nothing, event, vector, lastUpTo, cursorIn}
 
 -- widths 1 and 2, B 4. Time 1, "1" to signal 0; time 5, raw 11 with the claim 2 to signal 1. After it: time 5, "1" and "11"; time 9, "0" to signal 0
 abbrev both : List ℕ
@@ -41,18 +41,20 @@ unfolding parse imageForm headForm blockForm layoutForm repeat each lengths unle
     same
 both-load = (refl, refl, refl)
 
--- B 2, an event at time 5, three times: one time, three entries at it
+-- B 2, an event at time 5, three times: one time, three entries at it, of which the cursor finds the last
 abbrev fiveThrice : List ℕ
 fiveThrice =
     opened 2 (0 ∷ []) 3 (of (5 ∷ []) (1 ∷ []) (0x00 ∷ 0x00 ∷ []) ++ (of (5 ∷ []) (1 ∷ []) (0x00 ∷ 0x00 ∷ []) ++ of (5 ∷ []) (1 ∷ []) (0x00 ∷ 0x00 ∷ [])))
 
 pub five-load : (tableOf fiveThrice (8 ∷ 8 ∷ []) ≡ tableAfter (counted 1) (5 ∷ 8 ∷ []))
     × (loadOf fiveThrice 0 (7 ∷ 7 ∷ 7 ∷ 7 ∷ []) [] ≡ loadAfter (loaded 3 0) (0 ∷ 0 ∷ 0 ∷ 7 ∷ []) [])
+    × (cursorOf fiveThrice 0 4 [] ≡ cursorAfter nothing [])
+    × (cursorOf fiveThrice 0 5 [] ≡ cursorAfter (found 2 5 (event 0)) [])
 unfolding parse imageForm headForm blockForm layoutForm repeat each lengths unle readLeb stream getChain readChange valueAfter unpacked classOfAll allSymbols digits numberOf lastOr
     imageBytes blocksBytes streamedParts streamBytes headBytes blockBytes les dataOf offsetsFrom le lebOf groups changeBytes packed risingFrom? rising? eachBelow? knownKinds?
     contentFits? entryFits? entriesFit? partFits? partsFit? starts? blockFits? blocksFit? valid? tableFrom tableIn moved repeatsLast pushed loadFrom entryBytes entriesBytes loadIn
-    same
-five-load = (refl, refl)
+    lastUpTo cursorIn same
+five-load = (refl, refl, refl, refl)
 
 -- width 1, B 2: time 1, "0", time 2; after a gap time 7, "x". At 6 the cursor is still on entry 0
 abbrev gap : List ℕ
@@ -65,5 +67,5 @@ pub gap-load : (tableOf gap (8 ∷ 8 ∷ 8 ∷ []) ≡ tableAfter (counted 3) (1
 unfolding parse imageForm headForm blockForm layoutForm repeat each lengths unle readLeb stream getChain readChange valueAfter unpacked classOfAll allSymbols digits numberOf lastOr
     imageBytes blocksBytes streamedParts streamBytes headBytes blockBytes les dataOf offsetsFrom le lebOf groups changeBytes packed risingFrom? rising? eachBelow? knownKinds?
     contentFits? entryFits? entriesFit? partFits? partsFit? starts? blockFits? blocksFit? valid? tableFrom tableIn moved repeatsLast pushed loadFrom entryBytes entriesBytes loadIn
-    lastBefore cursorIn same
+    lastUpTo cursorIn same
 gap-load = (refl, refl, refl, refl)

@@ -25,7 +25,7 @@ use Rattle.loaded.specs.declared.TableAnswer.the-variants as table
 use Rattle.loaded.specs.declared.CursorAnswer.{CursorAnswer}
 use Rattle.loaded.specs.declared.CursorAnswer.the-variants as cursor
 use Rattle.loaded.specs.Opener.{kindAt}
-use Rattle.loaded.specs.Loading.{tableFrom, loads, signalClass}
+use Rattle.loaded.specs.Loading.{Load, tableFrom, loads, signalClass}
 use Rattle.loaded.specs.EntryBytes.{entriesBytes}
 
 -- 4: number at or above S, or absent
@@ -145,26 +145,28 @@ pub record CursorAfter : Type 0 where
 abbrev pub cursorAfter : CursorReply → List ℕ → CursorAfter
 cursorAfter r s = record { reply = r; symbols = s }
 
--- the last entry with time at or before t, of those from number i on; n where there is none
-unfoldable pub lastBefore : (times : List ℕ) (t n i : ℕ) → List Entry → ℕ
-lastBefore ts t n i [] = n
-lastBefore ts t n i (e ∷ es) = lastBefore ts t (pick (leb (getD ts (e .index) 0) t) i n) (suc i) es
+-- of entries numbered from i on, the last with time at or before t, and its number; p where there is none
+unfoldable pub lastUpTo : (times : List ℕ) (t : ℕ) (p : Option (ℕ × Entry)) (i : ℕ) → List Entry → Option (ℕ × Entry)
+lastUpTo ts t p i [] = p
+lastUpTo ts t p i (e ∷ es) = lastUpTo ts t (pick (leb (getD ts (e .index) 0) t) (some (i, e)) p) (suc i) es
 
--- the entry's number, time and content, the symbols one number a byte, leftmost first
-abbrev pub pointed : (times : List ℕ) → (number : ℕ) → Entry → (out : List ℕ) → CursorAfter
-pointed ts n e out = cursorAfter (found n (getD ts (e .index) 0) (shownAs (e .content))) (sets out 0 (symbolsOf (e .content)))
+-- the last entry with time at or before t, and its number: none before the first change, and without changes
+abbrev pub entryAt : Load → (t : ℕ) → Option (ℕ × Entry)
+entryAt l t = lastUpTo (l .times) t none 0 (l .entries)
 
--- before the first, entry 0; no entries, "none"
-abbrev pub pointedIn : (times : List ℕ) (t : ℕ) → List Entry → (out : List ℕ) → CursorAfter
-pointedIn ts t [] out = cursorAfter nothing out
-pointedIn ts t (e ∷ es) out = let n = lastBefore ts t 0 0 (e ∷ es) in pointed ts n (getD (e ∷ es) n e) out
+-- the entry's number, time and content, the symbols one number a byte, leftmost first; "none" writes nothing
+abbrev pub pointed : (times : List ℕ) → Option (ℕ × Entry) → (out : List ℕ) → CursorAfter
+pointed ts none out = cursorAfter nothing out
+pointed ts (some q) out =
+    let e = q .1 in
+    cursorAfter (found (q .0) (getD ts (e .index) 0) (shownAs (e .content))) (sets out 0 (symbolsOf (e .content)))
 
 -- 9: a vector's width exceeds the symbol buffer, even for "none"
 unfoldable pub cursorIn : Image → (signal t : ℕ) → (out : List ℕ) → CursorAfter
 cursorIn x g t out =
     let l = loads g (x .blocks) in
     pick (unknownSignal x g) (cursorAfter (refuse 4) out)
-    (pick (ltb (length out) (widthOf (kindAt x g))) (cursorAfter (refuse 9) out) (pointedIn (l .times) t (l .entries) out))
+    (pick (ltb (length out) (widthOf (kindAt x g))) (cursorAfter (refuse 9) out) (pointed (l .times) (entryAt l t) out))
 
 abbrev pub cursorFrom : Option Image → (signal t : ℕ) → (out : List ℕ) → CursorAfter
 cursorFrom none g t out = cursorAfter (refuse 11) out

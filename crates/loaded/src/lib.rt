@@ -22,7 +22,7 @@ pub enum TableAnswer {
 pub enum CursorAnswer {
     // The entry's number, its time and its value; a vector's symbols stand in the lent buffer.
     Found(u32, u64, Entry),
-    // The signal has no entries.
+    // No entry of the signal is at or before the time; the lent buffer stays.
     Nothing,
     Refused(u32),
 }

@@ -46,7 +46,7 @@ pub fn stream(image: &[u8], block: u32, signal: SignalRef) -> &[u8]
     stream_in(image, block, signal.0)
 }
 
-// The last entry of a signal at or before a time, or its first; a vector's symbols go into out. 11, 4, 9.
+// The last entry of a signal at or before a time, or nothing; a vector's symbols go into out. 11, 4, 9.
 pub fn cursor(image: &[u8], signal: SignalRef, time: u64, out: &mut [u8]) -> CursorAnswer
     ensures { λ r. ⌜ cursorAfter (cursorReply r) (now (out .exit)) ≡ cursorOf (now (image .entry)) (signal .0) time (now (out .entry)) ⌝ }
 {

@@ -5,7 +5,7 @@ use crate::memory::{Answer, BYTE, Memory, NUMBER, Recording, TIME, difference, s
 use crate::ours::{self, Source};
 use crate::paper;
 use crate::random::Random;
-use wellen::oracle::whole::{ABSENT, REAL, Step, Value, Whole, whole};
+use wellen::oracle::whole::{ABSENT, Loaded, REAL, Step, Value, Whole, shown_at, whole};
 
 /// What was compared.
 #[derive(Default)]
@@ -17,6 +17,8 @@ pub struct Tally {
     pub signals: u64,
     pub entries: u64,
     pub cursors: u64,
+    /// Those before the first change of a signal that has some.
+    pub early: u64,
     pub reader_refusals: u64,
 }
 
@@ -139,30 +141,38 @@ fn entries(signal: usize, kind: u32, load: &Load, history: &History) -> Compared
     Ok(())
 }
 
-/// The cursor at times of the table and beside them.
-fn cursor(source: Source, signal: usize, kind: u32, history: &History, random: &mut Random) -> Compared {
-    let room = room_for(kind);
-    for _ in 0..3 {
+/// Times for the cursor: some of the table or beside them, 0, and a signal's first and the one before it.
+fn asked(signal: usize, history: &History, random: &mut Random) -> [u64; 6] {
+    let mut near = || {
         let near = match history.times.len() {
             0 => random.next(),
             n => history.times[random.below(n)],
         };
-        let t = random.of(&[near, near.saturating_sub(1), near.saturating_add(1), 0, u64::MAX]);
-        let mut out = vec![BYTE; room + 1];
-        let found = source.cursor(kind, signal as u32, t, &mut out);
-        agree("cursor", &found, &Ok(history.cursor(signal, t)))?;
+        random.of(&[near, near.saturating_sub(1), near.saturating_add(1), 0, u64::MAX])
+    };
+    let first = history.first(signal).unwrap_or(u64::MAX);
+    [near(), near(), near(), 0, first.saturating_sub(1), first]
+}
+
+/// The cursor in outputs of the width and of one byte more, and one short of the width. None is found before the first change, and nothing
+/// is written then.
+fn cursor(source: Source, signal: usize, kind: u32, history: &History, times: &[u64]) -> Compared {
+    let room = room_for(kind);
+    for (number, t) in times.iter().enumerate() {
+        let mut out = vec![BYTE; room + number % 2];
+        let found = source.cursor(kind, signal as u32, *t, &mut out);
+        agree("cursor", &found, &Ok(history.cursor(signal, *t)))?;
         let written = if matches!(found, Ok(Some(_))) { room } else { 0 };
-        agree(
-            "symbols past the width",
-            &out[written..],
-            &vec![BYTE; room + 1 - written],
-        )?;
+        let rest = &out[written..];
+        agree("symbols past the width", rest, &vec![BYTE; rest.len()])?;
     }
     if room > 0 {
         let mut out = vec![BYTE; room - 1];
+        // where there is none, but for a change at time 0, and where an entry may be found
+        let t = if signal % 2 == 0 { 0 } else { u64::MAX };
         agree(
             "cursor in a short output",
-            source.cursor(kind, signal as u32, 0, &mut out),
+            source.cursor(kind, signal as u32, t, &mut out),
             Err(9),
         )?;
         agree("short output kept", out, vec![BYTE; room - 1])?;
@@ -208,13 +218,33 @@ pub fn read(image: &[u8], kinds: &[u32], history: &History, random: &mut Random,
         let at = |e| format!("signal {signal}: {e}");
         for source in ours::sources(image) {
             load(source, signal, &expected).map_err(at)?;
-            cursor(source, signal, kind, history, random).map_err(at)?;
-            tally.cursors += 3;
+            let times = asked(signal, history, random);
+            cursor(source, signal, kind, history, &times).map_err(at)?;
+            tally.cursors += times.len() as u64;
+            tally.early += times.iter().filter(|t| history.first(signal) > Some(**t)).count() as u64;
             tally.reader_refusals += 2;
         }
         entries(signal, kind, &expected, history).map_err(at)?;
         tally.signals += 1;
         tally.entries += expected.indices.len() as u64;
+    }
+    Ok(())
+}
+
+/// The cursor at times of the table, and what the Rust's `get_offset` finds at their places: all, or of very many some, with those around
+/// the first entry's.
+fn shown(signal: usize, loaded: &Loaded, history: &History) -> Compared {
+    let times = &history.times;
+    let first = *loaded.indices.first().unwrap_or(&0) as usize;
+    let chosen = |place: &usize| {
+        times.len() <= 64 || place % 8191 == 0 || place.abs_diff(first) <= 1 || place + 1 == times.len()
+    };
+    for place in (0..times.len()).filter(chosen) {
+        let found = history.cursor(signal, times[place]);
+        let told = found.map(|(number, time, content)| (number, time, content.word()));
+        let rust = shown_at(&loaded.signal, place as u32);
+        let theirs = rust.map(|(number, place, value)| (number, times[place as usize], value));
+        agree("cursor and the Rust's", told, theirs)?;
     }
     Ok(())
 }
@@ -254,6 +284,7 @@ pub fn rust(rust: &Whole, image: &[u8], kinds: &[u32], history: &History) -> Com
         none(&name("entries"), difference("byte", &expected.bytes, &loaded.bytes))?;
         let values: Vec<String> = history.kept(signal).iter().map(|c| c.content.word()).collect();
         none(&name("values"), difference("value", &values, &loaded.values))?;
+        shown(signal, loaded, history).map_err(|e| format!("signal {signal}: {e}"))?;
     }
     Ok(())
 }

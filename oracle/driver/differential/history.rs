@@ -138,12 +138,18 @@ impl History {
         }
     }
 
-    /// 'Loaded signal', cursor: "the last entry with time at or before t; before the first, entry 0".
+    /// 'Loaded signal', cursor: "the last entry with time at or before t", and document 02: "a time before the first change now answers
+    /// 'none'".
     pub fn cursor(&self, signal: usize, t: u64) -> Option<(u32, u64, Content)> {
         let kept = self.kept(signal);
         let time = |at: usize| self.times[kept[at].place as usize];
-        let at = (0..kept.len()).rev().find(|at| time(*at) <= t).unwrap_or(0);
-        let found = kept.get(at)?;
-        Some((at as u32, time(at), found.content.clone()))
+        let at = (0..kept.len()).rev().find(|at| time(*at) <= t)?;
+        Some((at as u32, time(at), kept[at].content.clone()))
+    }
+
+    /// The time of a signal's first change.
+    pub fn first(&self, signal: usize) -> Option<u64> {
+        let change = self.changes[signal].first()?;
+        Some(self.times[change.place as usize])
     }
 }

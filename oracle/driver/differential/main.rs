@@ -201,16 +201,24 @@ impl Run {
     fn recorded(&self) -> String {
         let t = &self.tally;
         format!(
-            "recordings: {} ({} of several blocks), {} calls, {} blocks, {} signals loaded, {} entries, {} cursors, {} refusals of the reader",
-            t.recordings, t.several_blocks, t.calls, t.blocks, t.signals, t.entries, t.cursors, t.reader_refusals
+            "recordings: {} ({} of several blocks), {} calls, {} blocks, {} signals loaded, {} entries, {} cursors ({} before a signal's first change), {} refusals of the reader",
+            t.recordings,
+            t.several_blocks,
+            t.calls,
+            t.blocks,
+            t.signals,
+            t.entries,
+            t.cursors,
+            t.early,
+            t.reader_refusals
         )
     }
 
     fn joined(&self) -> String {
         let (j, t) = (&self.joins, &self.joins.tally);
         format!(
-            "joins: {} ({} at an equal time, {} with an empty second) of {} recordings, {} signals loaded, {} entries, {} cursors; {} calls, {} refused",
-            j.joined, j.meeting, j.empty, t.recordings, t.signals, t.entries, t.cursors, j.calls, j.refused
+            "joins: {} ({} at an equal time, {} with an empty second) of {} recordings, {} signals loaded, {} entries, {} cursors ({} before a signal's first change); {} calls, {} refused",
+            j.joined, j.meeting, j.empty, t.recordings, t.signals, t.entries, t.cursors, t.early, j.calls, j.refused
         )
     }
 

@@ -2,7 +2,7 @@
 
 use crate::compare::{Compared, agree};
 use crate::generate::{Generator, REALS};
-use crate::memory::{Answer, Memory, Recording, step_line};
+use crate::memory::{Answer, BYTE, Memory, Recording, step_line};
 use crate::ours::{self, Source};
 use crate::paper::{self, decode};
 use crate::random::Random;
@@ -71,9 +71,17 @@ fn loaded(image: &[u8], kind: u32, index: u32, class: u32, content: Content) -> 
     agree("load", source.load(0, &mut indices, &mut bytes), Ok((1, class)))?;
     agree("index", indices, [index])?;
     agree("entry", bytes, expected)?;
-    let mut out = vec![0; if kind == REAL { 0 } else { kind as usize }];
-    let found = source.cursor(kind, 0, u64::MAX, &mut out);
-    agree("cursor", found, Ok(Some((0, index.into(), content))))
+    let mut out = vec![BYTE; if kind == REAL { 0 } else { kind as usize }];
+    let time = u64::from(index);
+    if time > 0 {
+        agree("cursor before it", source.cursor(kind, 0, time - 1, &mut out), Ok(None))?;
+        agree("symbols of none", out.iter().all(|byte| *byte == BYTE), true)?;
+    }
+    for t in [time, u64::MAX] {
+        let found = source.cursor(kind, 0, t, &mut out);
+        agree("cursor", found, Ok(Some((0, time, content.clone()))))?;
+    }
+    Ok(())
 }
 
 /// A value as a recording, for a report.

@@ -3,7 +3,7 @@ use mathlib.Core.Path.{subst}
 use native.Mathlib.Omega.{arith}
 use Rattle.entry_same.specs.declared.kept.KeptChange.{KeptChange}
 use Rattle.entry_same.specs.Kept.{KeptReads}
-use Rattle.cursor.proofs.CursorLaws.{cursor-unknown, cursor-short, cursor-nothing, cursor-found}
+use Rattle.cursor.proofs.CursorLaws.{cursor-unknown, cursor-short, cursor-nothing, cursor-counted, cursor-found}
 use borrow.Author.Needs.{needs}
 use Rattle.cursor.proofs.cursor_in.Statement.{statement}
 use Rattle.cursor.proofs.cursor_in.Tie as tie
@@ -37,15 +37,26 @@ point-at-requires c κs = search needs
 enum-told : tie.Need-enum-told
 enum-told c = search needs
 
-enum-known-found : tie.Need-enum-known-found
-enum-known-found c = search needs
+enum-known-last : tie.Need-enum-known-last
+enum-known-last c = search needs
+
+sub-number : tie.Need-sub-number
+sub-number c =
+    let p = c .before .before .before .before .before .before .before .before .before .before .before .before in
+    let a = p .args in
+    cursor-counted (a .image .now) (a .signal) (a .t) (a .out .now) (c .before .before .before .before .before .before .before .before .before .kind-at .result) _
+    (c .before .before .before .before .before .before .before .before .before .kind-at .ensures) (c .before .before .before .before .before .before .before .before .is-absent .ensures)
+    (λ j. c .before .before .before .before .before .before .before .before .before .before .before .shared-slice-known .given j .fits) (p .pre)
+    (c .before .before .before .before .point-at .result) _ (c .before .before .before .before .before .before .before .if1 .left)
+    (c .before .before .before .before .before .before .width .ensures) (c .before .before .before .before .before .if2 .left)
+    (c .before .before .before .before .point-at .ensures .1) _ _ (c .before .before .last .given .1)
 
 value-at-requires : tie.Need-value-at-requires
 value-at-requires c κs =
-    let a = c .before .before .before .before .before .before .before .before .before .before .before .before .args in (
-      subst (λ (l : KeptChange). KeptReads (c .before .before .before .before .before .before .before .before .before .kind-at .result) (a .image .now) l)
-          (c .before .before .found .given .1) (c .before .before .before .before .point-at .ensures .0 .1),
-      omega (arith, c .before .before .before .before .before .before .width .ensures, c .before .before .before .before .before .if2 .left),
+    let a = c .before .before .before .before .before .before .before .before .before .before .before .before .before .args in (
+      subst (λ (l : KeptChange). KeptReads (c .before .before .before .before .before .before .before .before .before .before .kind-at .result) (a .image .now) l)
+          (c .before .before .before .last .given .1) (c .before .before .before .before .before .point-at .ensures .0),
+      omega (arith, c .before .before .before .before .before .before .before .width .ensures, c .before .before .before .before .before .before .if2 .left),
     )
 
 returns-3 : tie.Need-returns-3
@@ -63,17 +74,17 @@ same-length c = search needs
 
 returns-4 : tie.Need-returns-4
 returns-4 c =
-    let p = c .before .before .before .before .before .before .before .before .before .before .before .before .before .before .before in
+    let p = c .before .before .before .before .before .before .before .before .before .before .before .before .before .before .before .before in
     let a = p .args in
     cursor-found (a .image .now) (a .signal) (a .t) (a .out .now)
-    (c .before .before .before .before .before .before .before .before .before .before .before .before .kind-at .result) _
-    (c .before .before .before .before .before .before .before .before .before .before .before .before .kind-at .ensures)
-    (c .before .before .before .before .before .before .before .before .before .before .before .is-absent .ensures)
-    (λ j. c .before .before .before .before .before .before .before .before .before .before .before .before .before .before .shared-slice-known .given j .fits) (p .pre)
-    (c .before .before .before .before .before .before .before .point-at .result) _ (c .before .before .before .before .before .before .before .before .before .before .if1 .left)
-    (c .before .before .before .before .before .before .before .before .before .width .ensures) (c .before .before .before .before .before .before .before .before .if2 .left)
-    (c .before .before .before .before .before .before .before .point-at .ensures .1)
-    _ _ (c .before .before .value-at .result) _ (c .before .before .before .before .before .found .given .1) (c .before .before .value-at .ensures)
+    (c .before .before .before .before .before .before .before .before .before .before .before .before .before .kind-at .result) _
+    (c .before .before .before .before .before .before .before .before .before .before .before .before .before .kind-at .ensures)
+    (c .before .before .before .before .before .before .before .before .before .before .before .before .is-absent .ensures)
+    (λ j. c .before .before .before .before .before .before .before .before .before .before .before .before .before .before .before .shared-slice-known .given j .fits) (p .pre)
+    (c .before .before .before .before .before .before .before .before .point-at .result) _ (c .before .before .before .before .before .before .before .before .before .before .before .if1 .left)
+    (c .before .before .before .before .before .before .before .before .before .before .width .ensures) (c .before .before .before .before .before .before .before .before .before .if2 .left)
+    (c .before .before .before .before .before .before .before .before .point-at .ensures .1)
+    _ _ (c .before .before .before .before .before .before .last .given .1) (c .before .before .value-at .result) _ (c .before .before .value-at .ensures)
 
 pub cursor-in-spec : {M : Type 1} → statement M
 cursor-in-spec =
@@ -87,7 +98,8 @@ cursor-in-spec =
     returns-2
     point-at-requires
     enum-told
-    enum-known-found
+    enum-known-last
+    sub-number
     value-at-requires
     returns-3
     same-length

@@ -61,23 +61,32 @@ add-i c = let h = turn c .small in record { fits = omega arith }
 time-at-requires : tie.Need-time-at-requires Inv-loop μ-loop
 time-at-requires c κs = (c .before .before .before .before .before .before .before .before .pre .0, turn c .time)
 
-pass-change-requires : tie.Need-pass-change-requires Inv-loop μ-loop
-pass-change-requires c κs = let g = turn (c .before) in (c .before .before .before .before .before .before .loop .inv .reads, g .reads, g .count)
+-- times rise: after t there is nothing to keep
+returns : tie.Need-returns Inv-loop μ-loop
+returns c = (
+  c .before .before .before .before .before .before .before .loop .inv .reads,
+  λ m h. turn (c .before .before) .stops (c .before .time-at .result) m h (c .before .time-at .ensures m h) (omega (arith, c .if1 .taken)),
+)
+
+keep-change-requires : tie.Need-keep-change-requires Inv-loop μ-loop
+keep-change-requires c κs = let g = turn (c .before .before) in (c .before .before .before .before .before .before .before .loop .inv .reads, g .reads, g .count)
 
 loop-less : tie.Need-loop-less Inv-loop μ-loop
-loop-less c = let g = turn (c .before .before) in omega (arith, g .more, g .most)
+loop-less c = let g = turn (c .before .before .before) in omega (arith, g .more, g .most)
 
 loop-again : tie.Need-loop-again Inv-loop μ-loop
-loop-again c = turn (c .before .before) .again (c .pass-change .result) (c .before .time-at .result) (c .before .time-at .ensures) (c .pass-change .ensures .0) (c .pass-change .ensures .1)
+loop-again c =
+    turn (c .before .before .before) .again (c .keep-change .result) (c .before .before .time-at .result) (c .before .before .time-at .ensures) (omega (arith, c .before .if1 .left))
+    (c .keep-change .ensures .0) (c .keep-change .ensures .1)
 
 enum-told : tie.Need-enum-told Inv-loop μ-loop
 enum-told c = search needs
 
-returns : tie.Need-returns Inv-loop μ-loop
-returns c = absurd (standing (c .before .before .before) (sym (c .before .before .known-change .ensures) ∙ c .enum-told .given .1))
-
 returns-2 : tie.Need-returns-2 Inv-loop μ-loop
-returns-2 c =
+returns-2 c = absurd (standing (c .before .before .before) (sym (c .before .before .known-change .ensures) ∙ c .enum-told .given .1))
+
+returns-3 : tie.Need-returns-3 Inv-loop μ-loop
+returns-3 c =
     let p = c .before .before .before .before in
     let a = p .args in
     let l = c .before .loop in (
@@ -98,9 +107,10 @@ pass-block-spec =
     enum-known-d
     add-i
     time-at-requires
-    pass-change-requires
+    returns
+    keep-change-requires
     loop-less
     loop-again
     enum-told
-    returns
-    returns-2)
+    returns-2
+    returns-3)

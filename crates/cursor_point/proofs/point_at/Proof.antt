@@ -1,6 +1,7 @@
 -- The loop's invariant: the blocks from number k on, passed, give what all blocks give. The measure is how many blocks are left.
 use Prim.Native.Nat.{_-_, _≤_}
 use mathlib.Core.Path.{_≡_, refl, ap, _∙_}
+use mathlib.Core.Option.{none}
 use native.Mathlib.Numerals.{add-one}
 use native.Mathlib.Omega.{arith}
 use borrow.Author.Needs.{needs}
@@ -8,9 +9,12 @@ use lib.ListN.{drop}
 use Rattle.loaded.specs.Opener.{blockAt, partAt}
 use Rattle.loaded.specs.Loading.{entriesIn}
 use Rattle.walk.specs.Walk.{imageIn, blockPlace, BlockHere}
+use Rattle.walk.proofs.HeadLaws.{means}
+use Rattle.walk.proofs.BlockLaws.{fits-in}
 use Rattle.cursor_point.specs.Point.{Point, unpointed, blocksPassed, pointAs, PointReads}
 use Rattle.cursor_point.proofs.PointLaws.{all-count}
 use Rattle.cursor_point.proofs.BlockLaws.{counts-next, blocks-next, blocks-end}
+use Rattle.cursor_point.proofs.LoadLaws.{blocks-above}
 use Rattle.cursor_point.proofs.point_at.Statement.{statement}
 use Rattle.cursor_point.proofs.point_at.Tie as tie
 
@@ -33,13 +37,38 @@ first-block-requires : tie.Need-first-block-requires Inv-loop μ-loop
 first-block-requires c κs = search needs
 
 loop-holds : tie.Need-loop-holds Inv-loop μ-loop
-loop-holds c = (omega arith, c .first-block .ensures, (tt, tt), omega arith, refl)
+loop-holds c = (omega arith, c .first-block .ensures, tt, omega arith, refl)
+
+time-at-requires : tie.Need-time-at-requires Inv-loop μ-loop
+time-at-requires c κs =
+    let p = c .before .before .before .before .before in
+    let s = standing c in
+    let fits = fits-in (c .before .loop .k) (p .args .image .now) (λ j. c .before .before .before .before .shared-slice-known .given j .fits) (p .pre .0) (s .exists) in
+    (p .pre .0, (c .before .loop .k, s, omega (arith, fits .any)))
+
+returns : tie.Need-returns Inv-loop μ-loop
+returns c =
+    let i = c .before .before in
+    let l = i .before .loop in
+    let p = i .before .before .before .before .before in
+    let a = p .args in
+    let x = imageIn (a .image .now) in
+    let b = means (a .image .now) (λ j. i .before .before .before .before .shared-slice-known .given j .fits) (p .pre .0) .valid .blocks in
+    let s = standing i in (
+      l .inv .2,
+      blocks-above (x .limit) (x .kinds) (a .t) (a .signal) (l .k) (pointAs (a .kind) (a .image .now) (l .held)) (x .blocks) none b (s .exists)
+          (omega (arith, c .before .time-at .ensures (l .k) s, c .if1 .taken))
+          ∙ l .inv .4,
+    )
 
 pass-block-requires : tie.Need-pass-block-requires Inv-loop μ-loop
-pass-block-requires c κs = let p = c .before .before .before .before .before in let l = c .before .loop in (p .pre .0, (l .k, standing c), p .pre .1, l .inv .2, l .inv .3)
+pass-block-requires c κs =
+    let i = c .before .before in
+    let p = i .before .before .before .before .before in
+    let l = i .before .loop in (p .pre .0, (l .k, standing i), p .pre .1, l .inv .2, l .inv .3)
 
 next-block-requires : tie.Need-next-block-requires Inv-loop μ-loop
-next-block-requires c κs = (c .before .before .before .before .before .before .pre .0, (c .before .before .loop .k, standing (c .before)))
+next-block-requires c κs = let i = c .before .before .before in (i .before .before .before .before .before .pre .0, (i .before .loop .k, standing i))
 
 add-k : tie.Need-add-k Inv-loop μ-loop
 add-k c = omega arith
@@ -49,7 +78,7 @@ loop-less c = omega arith
 
 loop-again : tie.Need-loop-again Inv-loop μ-loop
 loop-again c =
-    let i = c .before .before in
+    let i = c .before .before .before .before in
     let l = i .before .loop in
     let p = i .before .before .before .before .before in
     let a = p .args in
@@ -70,8 +99,8 @@ loop-again c =
       rw (add-one (l .k)) (blocks-next (a .t) (a .signal) (l .k) _ _ (x .blocks) (standing i .exists) q ∙ l .inv .4),
     )
 
-returns : tie.Need-returns Inv-loop μ-loop
-returns c =
+returns-2 : tie.Need-returns-2 Inv-loop μ-loop
+returns-2 c =
     let l = c .before .loop in
     let a = c .before .before .before .before .before .args in
     let x = imageIn (a .image .now) in
@@ -86,9 +115,11 @@ point-at-spec =
     block-count-requires
     first-block-requires
     loop-holds
+    time-at-requires
+    returns
     pass-block-requires
     next-block-requires
     add-k
     loop-less
     loop-again
-    returns)
+    returns-2)

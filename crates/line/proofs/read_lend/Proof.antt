@@ -2,8 +2,8 @@
 -- Assumes nothing.
 use mathlib.Core.Path.{_≡_, refl}
 use mathlib.Core.Option.{some}
+use Rattle.digits.specs.Numbers.{numberTo}
 use Rattle.line.specs.Words.{after, word}
-use Rattle.line.specs.Numbers.{numberTo}
 use Rattle.line.specs.Line.{lendOf}
 use Rattle.line.specs.Command.{shown}
 use Rattle.line.proofs.CallLaws.{number-read}

@@ -6,8 +6,8 @@ use mathlib.Core.List.{List}
 use mathlib.Core.Option.{some}
 use Rattle.lists.specs.Choice.{isSome}
 use Rattle.lists.proofs.ChoiceLaws.{none-there}
+use Rattle.digits.specs.Numbers.{hexBytes}
 use Rattle.line.specs.Words.{after, word}
-use Rattle.line.specs.Numbers.{hexBytes}
 use Rattle.line.specs.Line.{number32, rawOf}
 use Rattle.line.specs.Command.{shown}
 use Rattle.line.proofs.CallLaws.{number32-read}

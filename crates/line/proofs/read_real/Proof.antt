@@ -2,11 +2,12 @@
 -- Assumes nothing.
 use mathlib.Core.Path.{_≡_, refl, sym, ap, _∙_}
 use mathlib.Core.Option.{some}
+use Rattle.digits.specs.Numbers.{bitsOf}
+use Rattle.digits.specs.Value.{valueIn}
 use Rattle.line.specs.Words.{word}
-use Rattle.line.specs.Numbers.{bitsOf}
 use Rattle.line.specs.Line.{number32}
 use Rattle.line.specs.Line.{realOf}
-use Rattle.line.specs.Command.{valueIn, shown}
+use Rattle.line.specs.Command.{shown}
 use Rattle.line.proofs.CallLaws.{number32-read}
 use borrow.Author.Needs.{needs}
 use Rattle.line.proofs.read_real.Statement.{statement}

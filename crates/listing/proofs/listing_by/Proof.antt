@@ -3,17 +3,17 @@ use mathlib.Core.Path.{sym, ap, _∙_}
 use native.Mathlib.Omega.{arith}
 use lib.ListN.{length}
 use lib.Seq.{sets}
-use Rattle.ascii.proofs.PutLaws.{room-as}
+use Rattle.ascii.proofs.PutLaws.{room-as, TextRead}
 use Rattle.listing_text.specs.Listing.{listingOf}
-use Rattle.listing.proofs.ImageLaws.{into-short, into-long, TextRead, text-read}
+use Rattle.listing.proofs.ImageLaws.{into-short, into-long, listing-read}
 use borrow.Author.Needs.{needs}
 use Rattle.listing.proofs.listing_by.Statement.{statement}
 use Rattle.listing.proofs.listing_by.Tie as tie
 
-text-made : (t : tie.After-listing-text) → TextRead (t .before .before .before .before .before .args .image .now) (t .listing-text .result) (t .listing-text .last .1 .0)
+text-made : (t : tie.After-listing-text) → TextRead (listingOf (t .before .before .before .before .before .args .image .now)) (t .listing-text .result) (t .listing-text .last .1 .0)
 text-made t =
     let s = t .before .before .before .before .before in
-    text-read (s .args .image .now) (s .args .text .now) (t .listing-text .result) (t .listing-text .last .1 .0)
+    listing-read (s .args .image .now) (s .args .text .now) (t .listing-text .result) (t .listing-text .last .1 .0)
     (λ j. t .before .before .before .before .shared-slice-known .given j .fits) (s .pre) (t .listing-text .ensures)
 
 listing-text-requires : tie.Need-listing-text-requires

@@ -1,7 +1,7 @@
 -- The text ends within the buffer.
 use mathlib.Core.Path.{sym, ap, _∙_}
 use lib.ListN.{length}
-use Rattle.listing.proofs.ImageLaws.{text-read}
+use Rattle.listing.proofs.ImageLaws.{listing-read}
 use borrow.Author.Needs.{needs}
 use Rattle.wavelist.proofs.print_listing.Statement.{statement}
 use Rattle.wavelist.proofs.print_listing.Tie as tie
@@ -12,13 +12,13 @@ listing-text-requires c κs = search needs
 slice-reshare-prefix-write-all : tie.Need-slice-reshare-prefix-write-all
 slice-reshare-prefix-write-all c =
     let s = c .before .before .before .before .before .before in let v = c .before .before .listing-text in
-    let h = text-read (s .args .image .now) (s .args .out .now) (v .result) (v .last .1 .0) (λ j. c .before .before .before .before .before .shared-slice-known .given j .fits)
+    let h = listing-read (s .args .image .now) (s .args .out .now) (v .result) (v .last .1 .0) (λ j. c .before .before .before .before .before .shared-slice-known .given j .fits)
     (s .pre) (v .ensures) in h .inside
 
 slice-aggregate-write-all : tie.Need-slice-aggregate-write-all
 slice-aggregate-write-all c =
     let s = c .before .before .before .before .before .before .before in let v = c .before .before .before .listing-text in
-    let h = text-read (s .args .image .now) (s .args .out .now) (v .result) (v .last .1 .0)
+    let h = listing-read (s .args .image .now) (s .args .out .now) (v .result) (v .last .1 .0)
     (λ j. c .before .before .before .before .before .before .shared-slice-known .given j .fits) (s .pre) (v .ensures) in h .count ∙ sym (ap length (h .is))
 
 write-all-requires : tie.Need-write-all-requires

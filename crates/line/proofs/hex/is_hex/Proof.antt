@@ -6,7 +6,7 @@ use native.Mathlib.Omega.{arith}
 use native.Mathlib.Numerals.{add-one}
 use lib.ListN.{length, getD, drop}
 use Rattle.lists.specs.Choice.{isSome}
-use Rattle.line.specs.Numbers.{digitOf, hexBytes}
+use Rattle.digits.specs.Numbers.{digitOf, hexBytes}
 use Rattle.line.proofs.HexLaws.{hex-end, hex-odd, hex-high, hex-low, hex-next}
 use borrow.Author.Needs.{needs}
 use Rattle.line.proofs.hex.is_hex.Statement.{statement}

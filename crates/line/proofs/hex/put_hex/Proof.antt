@@ -10,7 +10,7 @@ use mathlib.Core.Option.{some}
 use lib.ListN.{length, getD, drop, length-set}
 use lib.Seq.{sets}
 use lib.ListN.{length-set}
-use Rattle.line.specs.Numbers.{digitOf, hexBytes}
+use Rattle.digits.specs.Numbers.{digitOf, hexBytes}
 use Rattle.line.specs.Command.{bytesIn}
 use Rattle.line.proofs.HexLaws.{hex-end, Pair, pair-at}
 use Rattle.line.proofs.HexLaws.{bytes-some, bytes-none}
