@@ -18,8 +18,7 @@ class Bad(Exception):
 
 
 def class_of(symbols):
-    largest = max(symbols)
-    return 0 if largest <= 1 else 1 if largest <= 3 else 2
+    return max(0 if symbol <= 1 else 1 if symbol <= 3 else 2 for symbol in symbols)
 
 
 def leb128(number):

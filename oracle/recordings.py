@@ -9,6 +9,7 @@
 import random
 import sys
 
+from model import class_of
 from questions import BITS, REALS, raw_length
 
 SEED = 20012
@@ -177,7 +178,7 @@ class Recording:
         return letters[0] * self.random.randint(least, count) + rest
 
     def raw(self, signal, symbols):
-        own = 0 if max(symbols) <= 1 else 1 if max(symbols) <= 3 else 2
+        own = class_of(symbols)
         claim = self.random.randint(own, 2) if self.random.random() < 0.5 else own
         bits = BITS[claim]
         number = 0

@@ -3,6 +3,7 @@
 mod clock;
 mod cursor;
 mod ours;
+mod symbols;
 mod workload;
 
 use clock::{Pairs, Spread, timed};
@@ -383,11 +384,13 @@ fn main() {
     match words[..] {
         [] => {
             tables(None);
+            symbols::table();
             flatness();
         }
         ["cursor"] => cursors(),
+        ["symbols"] => symbols::table(),
         ["flatness"] => flatness(),
         [name] => tables(Some(name)),
-        _ => panic!("usage: bench [WORKLOAD | cursor | flatness]"),
+        _ => panic!("usage: bench [WORKLOAD | cursor | symbols | flatness]"),
     }
 }

@@ -18,14 +18,8 @@ impl Ours {
         Ours {
             records: w.kinds.iter().map(|kind| Kind::from_number(*kind).record()).collect(),
             times: vec![1; w.limit as usize],
-            work: vec![1; w.calls.len() * 19 + w.pool.len()],
-            image: vec![
-                1;
-                16 + 4 * w.kinds.len()
-                    + w.calls.len() * 19
-                    + w.pool.len()
-                    + w.blocks() * (12 + 4 * w.kinds.len())
-            ],
+            work: vec![1; w.room()],
+            image: vec![1; 16 + 4 * w.kinds.len() + w.room() + w.blocks() * (12 + 4 * w.kinds.len())],
         }
     }
 
@@ -88,6 +82,16 @@ fn calls(r: &mut Recorder, w: &Workload) {
 impl Workload {
     pub fn part(&self, at: u32, length: u32) -> &[u8] {
         &self.pool[at as usize..(at + length) as usize]
+    }
+
+    /// No more bytes than these are recorded; a short text is extended to its signal's width.
+    pub fn room(&self) -> usize {
+        let each = |call: &Call| match *call {
+            Call::Vcd(signal, _, length) => 19 + length.max(self.kinds[signal as usize]),
+            Call::Raw(_, _, _, length) => 19 + length,
+            Call::Time(_) | Call::Real(..) => 19,
+        };
+        self.calls.iter().map(|call| each(call) as usize).sum()
     }
 
     /// At most so many blocks are cut.

@@ -48,6 +48,10 @@ impl Random {
 pub enum Values {
     /// VCD text; of a hundred values, so many have an x or z, and so many an h, u, w, l or -.
     Vcd { four: usize, nine: usize },
+    /// VCD text of these letters at random.
+    Letters(&'static [u8]),
+    /// VCD text of one letter, which is extended to the width.
+    Short(u8),
     /// Packed bytes with a claim, which is also the values' class where it is Two.
     Raw { claim: u8 },
 }
@@ -109,6 +113,16 @@ impl Workload {
             Values::Vcd { four, nine } => {
                 self.text(kind as usize, four, nine, random);
                 self.calls.push(Call::Vcd(signal, at, self.pool.len() as u32 - at));
+            }
+            Values::Letters(letters) => {
+                self.pool.push(b'b');
+                let letters = (0..kind).map(|_| letters[random.below(letters.len())]);
+                self.pool.extend(letters);
+                self.calls.push(Call::Vcd(signal, at, 1 + kind));
+            }
+            Values::Short(letter) => {
+                self.pool.extend([b'b', letter]);
+                self.calls.push(Call::Vcd(signal, at, 2));
             }
             Values::Raw { claim } => {
                 self.packed(kind as usize, claim, random);

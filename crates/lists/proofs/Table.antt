@@ -6,7 +6,7 @@ use mathlib.Core.List.{List, [], _∷_}
 use Prim.Native.Nat.{ℕ, zero, suc, _+_, _<_}
 use native.Mathlib.Nat.{add-zero, zero-add, add-suc, suc-add, le-of-suc-le-suc, not-suc-le-zero}
 use lib.Dec.{T}
-use lib.ListN.{length, getD}
+use lib.ListN.{length, getD, replicate}
 
 pub and-left : (a b : Bool) → T (a && b) → T a
 and-left true b t = tt
@@ -30,3 +30,10 @@ from f (x ∷ xs) i t (suc k) h =
 
 pub at : (f : ℕ → ℕ → Bool) (xs : List ℕ) → T (every f 0 xs) → (k : ℕ) → k < length xs → T (f k (getD xs k 0))
 at f xs t k h = subst (λ (m : ℕ). T (f m (getD xs k 0))) (zero-add k) (from f xs 0 t k h)
+
+-- a test that passes at every byte
+abbrev pub every-byte : (ℕ → Bool) → Bool
+every-byte f = every (λ (k x : ℕ). f k) 0 (replicate 256 0)
+
+pub at-byte : (f : ℕ → Bool) → T (every-byte f) → (k : ℕ) → k < 256 → T (f k)
+at-byte f t k h = at (λ (k x : ℕ). f k) (replicate 256 0) t k h

@@ -1,9 +1,9 @@
 // What the blocks say of a signal without its changes: how many bytes its streams have, and with them how many entries at most, and
 // its class. Document 01, 'Loaded signal'. The contracts cite specs/Least.antt and loaded/specs/Loading.antt.
-use packed_class::larger;
 use packed_symbols::bytes_required;
 use signal::kind::SignalEncoding;
 use value::states::States;
+use value::states::larger;
 use walk::block::first_block;
 use walk::block::next_block;
 use walk::head::block_count;

@@ -9,16 +9,17 @@ use native.Mathlib.Nat.{mod-lt, mod-le, mod-one, mod-eq-of-lt, div-add-mod', one
 use native.Mathlib.Omega.{arith}
 use borrow.Author.Tests.{lt-ltb, le-ltb, ltb-true, ltb-false, leb-true, eqb-true, eqb-false}
 use lib.Arith.{digits-lt}
-use lib.Dec.{ltb, eqb}
+use lib.Dec.{ltb, leb, eqb}
 use lib.ListN.{length, getD}
 use lib.Pow.{pow-pos, pow-mono, pow-add, shl-exact, shr-shr, high, low, mod-pow-add, field, mod-mod-pow}
 use Rattle.lists.specs.Choice.{pick}
 use Rattle.lists.specs.Bytes.{Bytes}
 use Rattle.lists.proofs.BytesLaws.{tail-bytes}
-use Rattle.value.specs.Class.{bitsOf, classOf, classOfAll, allSymbols, largestOf, minStates}
+use Rattle.lists.proofs.ChoiceLaws.{both-hold}
+use Rattle.value.specs.Class.{bitsOf, classOf, classOfAll, allSymbols, minStates, largestClass}
 use Rattle.value.specs.declared.states.States.the-variants.{Two}
 use Rattle.value.specs.declared.states.MaybeStates.the-variants.{Some}
-use Rattle.value.proofs.ClassLaws.{by-class, class-two, class-largest, all-largest, min-some}
+use Rattle.value.proofs.ClassLaws.{by-class, least-found, two-found}
 use Rattle.packed.specs.Packed.{numberOf, digitAt, digits, perByte, packedLength, packed, unpacked, topClear}
 
 -- every element is below m (past the end stands 0)
@@ -50,7 +51,7 @@ length-digits b (suc n) v = ap suc (length-digits b n v)
 pub digit-lt : (b i v : ℕ) → digitAt b i v < 2 ^ b
 digit-lt b i v = mod-lt (v / 2 ^ (i * b)) (pow-pos b)
 
-pub digits-below : (b n v : ℕ) → AllBelow (2 ^ b) (digits b n v)
+digits-below : (b n v : ℕ) → AllBelow (2 ^ b) (digits b n v)
 unfolding digits
 digits-below b zero v i = pow-pos b
 digits-below b (suc n) v zero = digit-lt b n v
@@ -126,17 +127,11 @@ symbol-fits (suc zero) x h =
     by-class (λ (k : ℕ). k ≤ 1 → x < 4) x (λ a k. omega arith) (λ a b k. b) (λ a k. absurd (omega arith))
 symbol-fits (suc (suc c)) x h = λ k. omega arith
 
-up-to-largest : (s : List ℕ) (i : ℕ) → getD s i 0 ≤ largestOf s
-unfolding largestOf
-up-to-largest [] i = omega arith
-up-to-largest (x ∷ l) zero = omega arith
-up-to-largest (x ∷ l) (suc i) = omega (arith, up-to-largest l i)
-
 pub symbols-below : (c : ℕ) (s : List ℕ) → allSymbols s ≡ true → classOfAll s ≤ c → AllBelow (2 ^ bitsOf c) s
-symbols-below c s a k i =
-    let m = leb-true (largestOf s) 8 (sym (all-largest s) ∙ a) in
-    let n = symbol-fits c (largestOf s) m (omega (arith, class-largest s)) in
-    omega (arith, up-to-largest s i)
+unfolding allSymbols classOfAll
+symbols-below c [] a k i = pow-pos (bitsOf c)
+symbols-below c (x ∷ s) a k zero = symbol-fits c x (leb-true x 8 (both-hold (leb x 8) (allSymbols s) a .0)) (omega arith)
+symbols-below c (x ∷ s) a k (suc i) = symbols-below c s (both-hold (leb x 8) (allSymbols s) a .1) (omega arith) i
 
 -- the symbols of a byte fill it
 pub byte-full : (c : ℕ) → perByte c * bitsOf c ≡ 8
@@ -255,15 +250,10 @@ pub clear-first : (w c : ℕ) (b : List ℕ) → Bytes b → 0 < w → length b 
 clear-first w c [] h p e = absurd (omega (arith, mul-pos p (bits-pos c)))
 clear-first w c (x ∷ l) h p e = by-first (w * bitsOf c) x l (eqb (w * bitsOf c % 8) 0) refl h (mul-pos p (bits-pos c)) e
 
-pub largest-below : (m : ℕ) (l : List ℕ) → AllBelow m l → 0 < m → largestOf l < m
-unfolding largestOf
-largest-below m [] h p = p
-largest-below m (x ∷ l) h p = let r = largest-below m l (λ i. h (suc i)) p in let f : x < m = h 0 in omega arith
-
 -- symbols of one bit are of class Two
+pub bits-class : (n v : ℕ) → largestClass (digits 1 n v) ≡ 0
+bits-class n v = two-found (digits 1 n v) (digits-below 1 n v)
+
 pub two-least : (w c : ℕ) (b : List ℕ) → c ≡ 0 → minStates (unpacked w c b) ≡ Some Two
 unfolding unpacked
-two-least w c b e =
-    let l = unpacked w c b in
-    let h : largestOf l < 2 = rw e (largest-below 2 (digits 1 w (numberOf 8 b)) (digits-below 1 w (numberOf 8 b)) (omega arith)) in
-    min-some l (omega arith) ∙ rw (class-two (largestOf l) h) refl
+two-least w c b e = rw e (sym (least-found (digits 1 w (numberOf 8 b))) ∙ rw (bits-class w (numberOf 8 b)) refl)

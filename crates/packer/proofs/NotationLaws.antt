@@ -4,19 +4,24 @@ use Prim.Native.Nat.{ℕ, suc, _+_, _-_, _*_, _^_, _≤_, _<_}
 use mathlib.Core.Path.{_≡_, refl, sym, ap, _∙_}
 use mathlib.Core.Bool.{true}
 use mathlib.Core.List.{List}
+use native.Mathlib.Nat.{mul-le-mul-right, suc-mul}
+use native.Mathlib.Numerals.{add-one}
 use native.Mathlib.Omega.{arith}
 use borrow.Author.Tests.{eqb-true}
+use lib.Dec.{ltb}
 use lib.ListN.{length, getD}
+use Rattle.lists.specs.Choice.{pick}
 use Rattle.value.specs.Class.{classNumber, bitsOf}
 use Rattle.value.specs.Symbol.{symbolOf, orNumber}
 use Rattle.value.specs.declared.states.States.{States}
 use Rattle.vcd.proofs.VcdLaws.{text-good}
-use Rattle.packed.specs.Packed.{numberOf, digitAt, digits, packedLength, packed, unpacked}
+use Rattle.packed.specs.Packed.{numberOf, digitAt, digits, perByte, packedLength, packed, unpacked}
 use Rattle.packed.proofs.PackedLaws.{AllBelow, symbols-below, number-lt, digits-number, digit-at, length-unpacked, unpacked-at}
 use Rattle.packer.specs.Notation.{symbolsFrom, Readable}
 use Rattle.packer.specs.Number.{numberIn, Held, standingIn, inClass}
 use Rattle.packer.specs.declared.Notation.{Notation}
 use Rattle.packer.specs.declared.Notation.the-variants.{Ascii, Packed}
+use Rattle.packer.proofs.PackLaws.{byte-in, same-symbols, taken-byte}
 
 pub length-from : (n : Notation) (w : ℕ) (b : List ℕ) → Readable n w b → length (symbolsFrom n w b) ≡ w
 length-from Ascii w b h = text-good w b h .size
@@ -76,3 +81,25 @@ packed-digit w c k b h j l =
     ap (λ (m : ℕ). digitAt (bitsOf (classNumber k)) m (numberOf 8 b)) (sym e)
     ∙ sym (unpacked-at w (classNumber k) b i (omega arith))
     ∙ symbol-digit (Packed k) w c b h i j (omega arith)
+
+-- before the symbols that stand in a text its extension has one symbol at every place
+extension-digit : (w c : ℕ) (u : List ℕ) → Held Ascii w c u → (j : ℕ) → length u ≤ j → j < w
+    → digitAt (bitsOf c) j (numberIn c Ascii w u) ≡ pick (ltb (orNumber 255 (symbolOf (getD u 0 0))) 2) 0 (orNumber 255 (symbolOf (getD u 0 0)))
+extension-digit w c u h j k l =
+    sym (symbol-digit Ascii w c u h (w - 1 - j) j (omega arith)) ∙ text-good w u (h .0) .left (w - 1 - j) (omega arith)
+
+byte-inside : (w c j : ℕ) → j + 1 < packedLength w c → j * perByte c + perByte c < w
+byte-inside w c j r = rw (add-one j, suc-mul j (perByte c)) at (byte-in w c (j + 1) r)
+
+-- so two bytes of it are alike
+pub alike-byte : (n : Notation) (w c : ℕ) (b : List ℕ) → Held n w c b → (i j : ℕ) → standingIn n w b ≤ i * perByte c → i ≤ j → j + 1 < packedLength w c
+    → digitAt 8 i (numberIn c n w b) ≡ digitAt 8 j (numberIn c n w b)
+alike-byte (Packed k) w c b h i j s l r = absurd (omega (arith, byte-inside w c j r, mul-le-mul-right (perByte c) l))
+alike-byte Ascii w c u h i j s l r =
+    let v : ℕ = numberIn c Ascii w u in
+    let p : ℕ = perByte c in
+    let end = byte-inside w c j r in
+    let less = mul-le-mul-right p l in
+    sym (taken-byte c i v)
+    ∙ same-symbols (bitsOf c) v (i * p) (j * p) p (λ t k. extension-digit w c u h (i * p + t) (omega arith) (omega arith) ∙ sym (extension-digit w c u h (j * p + t) (omega arith) (omega arith)))
+    ∙ taken-byte c j v

@@ -3,10 +3,10 @@
 use Prim.Native.Nat.{ℕ, zero, suc, _+_, _-_, _*_, _/_, _^_, _≤_, _<_}
 use mathlib.Core.Path.{_≡_, refl, sym, ap, ap₂, _∙_}
 use mathlib.Core.List.{List}
-use native.Mathlib.Nat.{sub-self, zero-mul, mod-lt, mod-one, zero-mod, mul-assoc, div-eq-of-lt, mul-le-mul-right, lt-of-lt-of-le}
+use native.Mathlib.Nat.{add-zero, zero-add, suc-add, add-suc, sub-self, zero-mul, mod-lt, mod-one, zero-mod, mul-assoc, div-eq-of-lt, mul-le-mul-right, lt-of-lt-of-le}
 use native.Mathlib.Numerals.{add-one}
 use native.Mathlib.Omega.{arith}
-use lib.ListN.{length, set, length-set}
+use lib.ListN.{length, set, length-set, replicate}
 use lib.Seq.{sets}
 use lib.Pow.{pow-pos, pow-mono, mod-pow-add, shr-shr}
 use Rattle.value.specs.Class.{bitsOf}
@@ -38,6 +38,12 @@ pub whole-in : (c x w : ℕ) → x ≤ w → (x / perByte c * perByte c ≤ x) �
 whole-in zero x w h = (omega arith, omega arith)
 whole-in (suc zero) x w h = (omega arith, omega arith)
 whole-in (suc (suc c)) x w h = (omega arith, omega arith)
+
+-- and one more byte would have them all
+pub whole-near : (c x : ℕ) → x ≤ (x / perByte c + 1) * perByte c
+whole-near zero x = omega arith
+whole-near (suc zero) x = omega arith
+whole-near (suc (suc c)) x = omega arith
 
 -- a byte before the end of n has room with them
 pub byte-room : (k m : ℕ) {n left : ℕ} → 0 < left → left ≤ n → n * k ≤ m → (left - 1) * k + k ≤ m
@@ -91,6 +97,16 @@ module _ (b after count v : ℕ) where
       let f : count - i ≡ count = omega arith in
       rw (e, f) at (t .1)
 
+-- symbols that are the same at n places make the same
+pub same-symbols : (b v i j n : ℕ) → ((t : ℕ) → t < n → digitAt b (i + t) v ≡ digitAt b (j + t) v) → symbolsAt b i n v ≡ symbolsAt b j n v
+same-symbols b v i j zero h = rw (zero-mul b) (mod-one (v / 2 ^ (i * b)) ∙ sym (mod-one (v / 2 ^ (j * b))))
+same-symbols b v i j (suc n) h =
+    let more = same-symbols b v (suc i) (suc j) n (λ t k. rw (suc-add i t, suc-add j t, ← (add-suc i t), ← (add-suc j t)) (h (suc t) (omega arith))) in
+    let first = rw (add-zero i, add-zero j) at (h 0 (omega arith)) in
+    sym (one-more b 0 0 v i n)
+    ∙ ap₂ (λ (x y : ℕ). x * 2 ^ b + y) more first
+    ∙ one-more b 0 0 v j n
+
 -- and are one where they fill it
 pub taken-byte : (c m v : ℕ) → symbolsAt (bitsOf c) (m * perByte c) (perByte c) v ≡ digitAt 8 m v
 taken-byte c m v = rw (byte-bits c m, byte-full c) refl
@@ -116,3 +132,12 @@ module _ (v : ℕ) (l : List ℕ) (at n : ℕ) where
   pub written-all : (out : List ℕ) (o : ℕ) {left : ℕ} → left ≤ 0 → Written v l at n out o left → (o ≡ at + n) × (out ≡ sets l at (digits 8 n v))
   unfolding digits
   written-all out o {left} h w = let e : left ≡ 0 = omega arith in (omega arith, rw e at (w .3))
+
+-- bytes that are alike, k of them before the `stop` last
+pub alike-written : (v y stop k : ℕ) (l : List ℕ) (at : ℕ) → ((j : ℕ) → stop ≤ j → j < k + stop → y ≡ digitAt 8 j v)
+    → sets (sets l at (replicate k y)) (at + k) (digits 8 stop v) ≡ sets l at (digits 8 (k + stop) v)
+unfolding digits
+alike-written v y stop zero l at h = rw (add-zero at, zero-add stop) refl
+alike-written v y stop (suc k) l at h =
+    let e : at + suc k ≡ suc at + k = omega arith in
+    rw (e, suc-add k stop, ← (h (k + stop) (omega arith) (omega arith))) (alike-written v y stop k (set l at y) (suc at) (λ j p q. h j p (omega arith)))

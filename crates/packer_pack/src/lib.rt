@@ -4,20 +4,21 @@
 // The contract cites `symbolsFrom` of specs/Notation.antt of the crate packer (which symbols) and `packed` of the crate packed (which bytes). One pass: a source
 // in the class already is copied (`packer_copy`); else each byte is made by itself, from the symbols that lie in it (specs/Number.antt there). The last bytes,
 // whose symbols all stand in the source, are made by a loop for each notation that has nothing to ask (`packer_letters`, `packer_convert`); those before
-// them symbol by symbol.
+// them symbol by symbol, or all at once where they are a short text's extension.
+use copy::put_same;
 use packed_symbols::bytes_required;
 use packed_symbols::get_bit;
 use packer::Notation;
 use packer::pushed;
 use packer_convert::packed_bytes;
 use packer_copy::copied;
+use packer_letters::extended_symbol;
 use packer_letters::text_bytes;
 use value::states::States;
 use value::symbol::Bit;
-use vcd_text::extended_symbol;
 ghost use mathlib.Core.Path.{_≡_};
 ghost use mathlib.Core.Bool.{true};
-ghost use Prim.Native.Nat.{_+_, _≤_, _<_};
+ghost use Prim.Native.Nat.{_+_, _*_, _≤_, _<_};
 ghost use lib.ListN.{length, getD};
 ghost use lib.Seq.{sets};
 ghost use Rattle.value.specs.Class.{classNumber, classOfAll, allSymbols};
@@ -67,7 +68,52 @@ fn part_byte(src: &[u8], notation: Notation, width: u32, after: usize, states: S
     working as u8
 }
 
-// Writes the bytes that lie before the last whole ones, and answers the place after them.
+// Writes the bytes that fewer than `left` and at least `stop` follow, symbol by symbol, and answers the place after them.
+fn symbol_bytes(
+    out: &mut [u8],
+    at: usize,
+    src: &[u8],
+    notation: Notation,
+    width: u32,
+    left: usize,
+    stop: usize,
+    states: States,
+) -> usize
+    requires { ⌜ Held notation width (classNumber states) (now src) ⌝ }
+    requires { ⌜ (stop ≤ left) × (left ≤ packedLength width (classNumber states)) × (at + left ≤ length (now out)) ⌝ }
+    ensures { λ r. ⌜ (r + stop ≡ at + left) × (sets (now (out .exit)) r (digits 8 stop (numberIn (classNumber states) notation width (now (src .entry)))) ≡ sets (now (out .entry)) at (digits 8 left (numberIn (classNumber states) notation width (now (src .entry))))) ⌝ }
+{
+    let mut o = at;
+    let mut after = left;
+    while stop < after {
+        after -= 1;
+        out[o] = part_byte(src, notation, width, after, states);
+        o += 1;
+    }
+    o
+}
+
+// Writes such bytes, and answers the place after them, where all of their symbols lie before those that stand in the source: they are alike.
+fn alike_bytes(
+    out: &mut [u8],
+    at: usize,
+    src: &[u8],
+    notation: Notation,
+    width: u32,
+    left: usize,
+    stop: usize,
+    states: States,
+) -> usize
+    requires { ⌜ Held notation width (classNumber states) (now src) × (standingIn notation width (now src) ≤ stop * perByte (classNumber states)) ⌝ }
+    requires { ⌜ (stop < left) × (left < packedLength width (classNumber states)) × (at + left ≤ length (now out)) ⌝ }
+    ensures { λ r. ⌜ (r + stop ≡ at + left) × (sets (now (out .exit)) r (digits 8 stop (numberIn (classNumber states) notation width (now (src .entry)))) ≡ sets (now (out .entry)) at (digits 8 left (numberIn (classNumber states) notation width (now (src .entry))))) ⌝ }
+{
+    let byte = part_byte(src, notation, width, stop, states);
+    put_same(out, at, byte, left - stop)
+}
+
+// Writes the bytes before the last whole ones, and answers the place after them. Where they are many, a text is short: but for the first, which may
+// have fewer symbols, and the last, which may have some of the text's, they are alike.
 fn part_bytes(
     out: &mut [u8],
     at: usize,
@@ -77,18 +123,30 @@ fn part_bytes(
     whole: usize,
     states: States,
 ) -> usize
-    requires { ⌜ Held notation width (classNumber states) (now src) ⌝ }
+    requires { ⌜ Held notation width (classNumber states) (now src) × (standingIn notation width (now src) ≤ (whole + 1) * perByte (classNumber states)) ⌝ }
     requires { ⌜ (whole ≤ packedLength width (classNumber states)) × (at + packedLength width (classNumber states) ≤ length (now out)) ⌝ }
     ensures { λ r. ⌜ (r + whole ≡ at + packedLength width (classNumber states)) × (sets (now (out .exit)) r (digits 8 whole (numberIn (classNumber states) notation width (now (src .entry)))) ≡ sets (now (out .entry)) at (digits 8 (packedLength width (classNumber states)) (numberIn (classNumber states) notation width (now (src .entry))))) ⌝ }
 {
-    let mut o = at;
-    let mut left = bytes_required(states, width);
-    while whole < left {
-        left -= 1;
-        out[o] = part_byte(src, notation, width, left, states);
-        o += 1;
+    let count = bytes_required(states, width);
+    // most texts have their vector's width
+    if count == whole {
+        return at;
     }
-    o
+    if count - whole < 3 {
+        return symbol_bytes(out, at, src, notation, width, count, whole, states);
+    }
+    let first = symbol_bytes(out, at, src, notation, width, count, count - 1, states);
+    let next = alike_bytes(
+        out,
+        first,
+        src,
+        notation,
+        width,
+        count - 1,
+        whole + 1,
+        states,
+    );
+    symbol_bytes(out, next, src, notation, width, whole + 1, whole, states)
 }
 
 // How many symbols stand in the source itself.

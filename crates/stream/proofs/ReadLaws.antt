@@ -19,14 +19,11 @@ use Rattle.numbers.specs.LittleEndian.{unle}
 use Rattle.numbers.specs.declared.leb128.Leb128.{Leb128}
 use Rattle.numbers.specs.declared.leb128.Leb128.the-variants.{Value, Bad}
 use Rattle.numbers.proofs.Leb128Trip.{read-is, get-put, put-get}
-use Rattle.value.specs.Class.{classNumber, statesOf, classOfAll, allSymbols, minStates}
+use Rattle.value.specs.Class.{classNumber, statesOf, classOfAll, allSymbols, largestClass}
 use Rattle.value.specs.declared.states.States.{States}
-use Rattle.value.specs.declared.states.States.the-variants.{Two}
-use Rattle.value.specs.declared.states.MaybeStates.{MaybeStates}
-use Rattle.value.specs.declared.states.MaybeStates.the-variants.{Some, None}
-use Rattle.value.proofs.ClassLaws.{number-states, class-all-small}
-use Rattle.packed.specs.Packed.{unpacked, packedLength, topClear}
-use Rattle.packed.proofs.PackedLaws.{two-least}
+use Rattle.value.proofs.ClassLaws.{number-states, class-all-small, own-found}
+use Rattle.packed.specs.Packed.{numberOf, unpacked, packedLength, topClear}
+use Rattle.packed.proofs.PackedLaws.{bits-class}
 use Rattle.signal.specs.declared.kind.SignalEncoding.{SignalEncoding}
 use Rattle.signal.specs.declared.kind.SignalEncoding.the-variants.{BitVector, Real, Absent}
 use Rattle.signal.specs.declared.decode.ChangeValue.{ChangeValue}
@@ -98,36 +95,14 @@ real-long s at v i h =
 pub own-top : (w c : ℕ) (b : List ℕ) (t : Bool) → t ≡ topClear w c b → t ≡ false → false ≡ ownClass w c b
 own-top w c b t e f = sym (ap (λ (t : Bool). t && (allSymbols (unpacked w c b) && eqb (classOfAll (unpacked w c b)) c)) (sym e ∙ f))
 
-none-symbols : (s : List ℕ) → minStates s ≡ None → allSymbols s ≡ false
-unfolding minStates
-none-symbols s e = by (allSymbols s) e
-  where
-    by : (t : Bool) → pick t (Some (statesOf (classOfAll s))) None ≡ None → t ≡ false
-    by true e = let z : _≡_ {A = ℕ} 0 1 = cc in absurd (omega arith)
-    by false e = refl
-
-some-symbols : (s : List ℕ) (m : States) → minStates s ≡ Some m → (allSymbols s ≡ true) × (classOfAll s ≡ classNumber m)
-unfolding minStates
-some-symbols s m e = by (allSymbols s) e
-  where
-    by : (t : Bool) → pick t (Some (statesOf (classOfAll s))) None ≡ Some m → (t ≡ true) × (classOfAll s ≡ classNumber m)
-    by true e = let q : statesOf (classOfAll s) ≡ m = cc in (refl, sym (number-states (classOfAll s) (class-all-small s)) ∙ ap classNumber q)
-    by false e = let z : _≡_ {A = ℕ} 0 1 = cc in absurd (omega arith)
-
-pub own-none : (w c : ℕ) (b : List ℕ) (t : Bool) (m : MaybeStates) → t ≡ topClear w c b → t ≡ true → m ≡ minStates (unpacked w c b) → m ≡ None → false ≡ ownClass w c b
-own-none w c b t m e f p q = rw (← e, f, none-symbols (unpacked w c b) (sym p ∙ q)) refl
-
-pub own-some : (w c : ℕ) (b : List ℕ) (t : Bool) (m : MaybeStates) (x : States) (n k : ℕ) → t ≡ topClear w c b → t ≡ true → m ≡ minStates (unpacked w c b) → m ≡ Some x
-    → n ≡ classNumber x → k ≡ c → eqb n k ≡ ownClass w c b
-own-some w c b t m x n k e f p q u v =
-    let r = some-symbols (unpacked w c b) x (sym p ∙ q) in
-    rw (← e, f, r .0, r .1, u, v) refl
+pub own-by-class : (w c : ℕ) (b : List ℕ) (t : Bool) (n k : ℕ) → t ≡ topClear w c b → t ≡ true → n ≡ largestClass (unpacked w c b) → k ≡ c → c ≤ 2 → eqb n k ≡ ownClass w c b
+own-by-class w c b t n k e f p q h = rw (← e, f, p, q) (own-found (unpacked w c b) c h)
 
 -- of bits that are symbols each the top bits decide
 pub own-two : (w : ℕ) (b : List ℕ) → ownClass w 0 b ≡ topClear w 0 b
 own-two w b =
-    let r = some-symbols (unpacked w 0 b) Two (two-least w 0 b refl) in
-    rw (r .0, r .1) (by (topClear w 0 b))
+    let two : largestClass (unpacked w 0 b) ≡ 0 = unfold unpacked in bits-class w (numberOf 8 b) in
+    ap (λ (t : Bool). topClear w 0 b && t) (sym (own-found (unpacked w 0 b) 0 (omega arith)) ∙ rw two refl) ∙ by (topClear w 0 b)
   where
     by : (t : Bool) → t && true ≡ t
     by true = refl

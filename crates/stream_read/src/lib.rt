@@ -5,14 +5,13 @@
 use numbers::leb128::Leb128;
 use numbers::leb128::get_leb128;
 use numbers::little_endian::get_u64;
-use packed_class::find_min_states;
+use packed_class::class_from;
 use packed_class::top_clear;
 use packed_symbols::bytes_required;
 use signal::decode::ChangeValue;
 use signal::kind::SignalEncoding;
 use stream::read::MAX_DELTA;
 use stream::read::ReadChange;
-use value::states::MaybeStates;
 use value::states::States;
 use value::symbol::Bit;
 ghost use mathlib.Core.Path.{_≡_};
@@ -42,10 +41,7 @@ fn own_class(part: &[u8], width: u32, states: States) -> bool
     if !top_clear(part, width, states) {
         return false;
     }
-    match find_min_states(part, width, states) {
-        MaybeStates::Some(least) => least.number() == states.number(),
-        MaybeStates::None => false,
-    }
+    class_from(part, 0, states) == states.number()
 }
 
 // A wider vector's change of class Two, of which most are: every bit is a symbol, so only the unused top bits are looked at.

@@ -1,10 +1,10 @@
--- The definitions at single values, computed: IEEE 1364's letters and the crate's, classes, bits, the largest symbol.
+-- The definitions at single values, computed: IEEE 1364's letters and the crate's, classes, bits, numbers or-ed together.
 -- Assumes nothing.
 use Prim.Native.Nat.{ℕ}
 use mathlib.Core.Path.{_≡_, refl}
-use mathlib.Core.List.{[], _∷_, map}
+use mathlib.Core.List.{List, [], _∷_, map}
 use Rattle.value.specs.Symbol.{symbolOf, orNumber}
-use Rattle.value.specs.Class.{classNumber, classOfAll, bitsOf, minStates, allSymbols}
+use Rattle.value.specs.Class.{classNumber, classOfAll, bitsOf, minStates, allSymbols, orAll, classOfOr}
 use Rattle.value.specs.declared.states.States.the-variants.{Two, Four, Nine}
 use Rattle.value.specs.declared.states.MaybeStates.the-variants.{Some, None}
 
@@ -20,6 +20,14 @@ pub classes : map classOfAll ((0 ∷ []) ∷ (1 ∷ []) ∷ (2 ∷ []) ∷ (3 �
     ≡ 0 ∷ 0 ∷ 1 ∷ 1 ∷ 2 ∷ 2 ∷ 2 ∷ 1 ∷ 0 ∷ []
 unfolding classOfAll
 classes = refl
+
+abbrev values : List (List ℕ)
+values = (1 ∷ 2 ∷ []) ∷ (2 ∷ 8 ∷ []) ∷ (1 ∷ 1 ∷ []) ∷ (0 ∷ 3 ∷ 4 ∷ []) ∷ (0 ∷ 2 ∷ []) ∷ [] ∷ []
+
+-- 1 or x is 3 and Four, x or - is 10 and Nine, 1 or 1 is 1; nothing is Two
+pub or-ed : (map orAll values ≡ 3 ∷ 10 ∷ 1 ∷ 7 ∷ 2 ∷ 0 ∷ []) × (map (λ (l : List ℕ). classOfOr (orAll l)) values ≡ 1 ∷ 2 ∷ 0 ∷ 2 ∷ 1 ∷ 0 ∷ [])
+unfolding orAll
+or-ed = (refl, refl)
 
 pub bits-per-symbol : map bitsOf (map classNumber (Two ∷ Four ∷ Nine ∷ [])) ≡ 1 ∷ 2 ∷ 4 ∷ []
 bits-per-symbol = refl

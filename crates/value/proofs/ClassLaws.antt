@@ -1,15 +1,16 @@
--- Classes: the enum and its numbers; the class of a value by its largest symbol.
+-- Classes: the enum and its numbers; the class of a value as the code finds it, by cases of its symbols.
 -- Assumes nothing.
 use Prim.Native.Nat.{ℕ, zero, suc, _≤_, _<_, max}
-use mathlib.Core.Path.{_≡_, refl, sym, ap, _∙_}
-use mathlib.Core.Bool.{Bool, true, false, _&&_}
+use mathlib.Core.Path.{_≡_, refl, sym, _∙_}
+use mathlib.Core.Bool.{Bool, true, false, _&&_, true≢false}
 use mathlib.Core.List.{List, [], _∷_}
 use native.Mathlib.Omega.{arith}
-use borrow.Author.Tests.{lt-ltb, le-ltb, ltb-true, ltb-false, leb-true, leb-false, le-leb, lt-leb}
-use lib.Dec.{ltb, leb}
+use borrow.Author.Tests.{ne-eqb, lt-ltb, le-ltb, ltb-true, ltb-false, leb-true, leb-false, le-leb, lt-leb}
+use lib.Dec.{ltb, leb, eqb}
 use lib.ListN.{length, getD}
 use Rattle.lists.specs.Choice.{pick}
-use Rattle.value.specs.Class.{classNumber, statesOf, classOf, classOfAll, allSymbols, minStates, largestOf}
+use Rattle.lists.proofs.ChoiceLaws.{both-hold}
+use Rattle.value.specs.Class.{classNumber, statesOf, classOf, classOfAll, allSymbols, minStates, symbolClass, largestClass, statesOrNone}
 use Rattle.value.specs.declared.states.States.{States}
 use Rattle.value.specs.declared.states.States.the-variants.{Two, Four, Nine}
 use Rattle.value.specs.declared.states.MaybeStates.the-variants.{Some, None}
@@ -65,43 +66,78 @@ unfolding classOfAll
 class-all-small [] = omega arith
 class-all-small (s ∷ l) = omega (arith, class-small s, class-all-small l)
 
--- the larger of two symbols has the larger of their classes
-class-max : (a b : ℕ) → classOf (max a b) ≡ max (classOf a) (classOf b)
-class-max a b = by-class (λ (c : ℕ). c ≡ max (classOf a) (classOf b)) (max a b)
-    (λ h. let p = class-two a (omega arith) in let q = class-two b (omega arith) in omega arith)
-    (λ h k. by-class (λ (c : ℕ). 1 ≡ max c (classOf b)) a
-    (λ x. let q = class-four b (omega arith) (omega arith) in omega arith)
-    (λ x y. by-class (λ (c : ℕ). 1 ≡ max 1 c) b (λ z. omega arith) (λ z w. omega arith) (λ z. absurd (omega arith)))
-    (λ x. absurd (omega arith)))
-    (λ h. by-class (λ (c : ℕ). 2 ≡ max c (classOf b)) a
-    (λ x. let q = class-nine b (omega arith) in omega arith)
-    (λ x y. let q = class-nine b (omega arith) in omega arith)
-    (λ x. omega (arith, class-small b)))
+-- ---- how the class is found
 
--- the class of a value is that of its largest symbol
-pub class-largest : (l : List ℕ) → classOf (largestOf l) ≡ classOfAll l
-unfolding classOfAll largestOf
-class-largest [] = refl
-class-largest (s ∷ l) = class-max s (largestOf l) ∙ ap (max (classOf s)) (class-largest l)
+pub symbol-class : (s : ℕ) → s ≤ 8 → symbolClass s ≡ classOf s
+symbol-class s h = rw (le-leb s 8 h) refl
 
--- all are symbols exactly where the largest is
-pub all-largest : (l : List ℕ) → allSymbols l ≡ leb (largestOf l) 8
-unfolding allSymbols largestOf
-all-largest [] = refl
-all-largest (s ∷ l) = by (leb s 8) refl (leb (largestOf l) 8) refl (all-largest l)
+no-symbol-class : (s : ℕ) → 8 < s → symbolClass s ≡ 3
+no-symbol-class s h = rw (lt-leb s 8 h) refl
+
+-- below Nine are the symbols 0 1 x z
+pub below-nine : (s : ℕ) → ltb s 4 ≡ ltb (symbolClass s) 2
+below-nine s = by (leb s 8) refl
   where
-    by : (t : Bool) → leb s 8 ≡ t → (u : Bool) → leb (largestOf l) 8 ≡ u → allSymbols l ≡ u → t && allSymbols l ≡ leb (max s (largestOf l)) 8
-    by true e true f g = rw g (sym (le-leb (max s (largestOf l)) 8 (omega (arith, leb-true s 8 e, leb-true (largestOf l) 8 f))))
-    by true e false f g = rw g (sym (lt-leb (max s (largestOf l)) 8 (omega (arith, leb-false (largestOf l) 8 f))))
-    by false e u f g = sym (lt-leb (max s (largestOf l)) 8 (omega (arith, leb-false s 8 e)))
+    by : (t : Bool) → leb s 8 ≡ t → ltb s 4 ≡ ltb (symbolClass s) 2
+    by true e = rw (symbol-class s (leb-true s 8 e)) (by-class (λ (c : ℕ). ltb s 4 ≡ ltb c 2) s (λ a. lt-ltb s 4 (omega arith)) (λ a b. lt-ltb s 4 b) (λ a. le-ltb s 4 a))
+    by false e = let h : 8 < s = leb-false s 8 e in rw (no-symbol-class s h) (le-ltb s 4 (omega arith))
 
-pub min-none : (l : List ℕ) → 8 < largestOf l → minStates l ≡ None
-unfolding minStates
-min-none l h = rw (all-largest l, lt-leb (largestOf l) 8 h) refl
+-- by the tests that the code makes, the last one first
+pub class-tests : (s : ℕ) → pick (leb 9 s) 3 (pick (leb 4 s) 2 (pick (leb 2 s) 1 0)) ≡ symbolClass s
+class-tests s = last (leb 9 s) refl
+  where
+    inside : s ≤ 8 → pick (leb 4 s) 2 (pick (leb 2 s) 1 0) ≡ classOf s
+    inside h = by-class (λ (c : ℕ). pick (leb 4 s) 2 (pick (leb 2 s) 1 0) ≡ c) s
+        (λ a. let k : s < 4 = omega arith in simp (lt-leb 4 s k, lt-leb 2 s a))
+        (λ a b. simp (lt-leb 4 s b, le-leb 2 s a))
+        (λ a. simp (le-leb 4 s a))
 
-pub min-some : (l : List ℕ) → largestOf l ≤ 8 → minStates l ≡ Some (statesOf (classOf (largestOf l)))
+    last : (t : Bool) → leb 9 s ≡ t → pick t 3 (pick (leb 4 s) 2 (pick (leb 2 s) 1 0)) ≡ symbolClass s
+    last true e = sym (no-symbol-class s (omega (arith, leb-true 9 s e)))
+    last false e = let h : s ≤ 8 = omega (arith, leb-false 9 s e) in inside h ∙ sym (symbol-class s h)
+
+-- the largest class of symbols is their class, and 3 where one is no symbol
+found-class : (l : List ℕ) → allSymbols l ≡ true → largestClass l ≡ classOfAll l
+unfolding allSymbols classOfAll largestClass
+found-class [] h = refl
+found-class (s ∷ l) h =
+    let both = both-hold (leb s 8) (allSymbols l) h in
+    rw (symbol-class s (leb-true s 8 (both .0)), found-class l (both .1)) refl
+
+found-none : (l : List ℕ) → allSymbols l ≡ false → 2 < largestClass l
+unfolding allSymbols largestClass
+found-none [] h = absurd (true≢false h)
+found-none (s ∷ l) h = by (leb s 8) refl h (found-none l)
+  where
+    by : (t : Bool) → leb s 8 ≡ t → t && allSymbols l ≡ false → (allSymbols l ≡ false → 2 < largestClass l) → 2 < max (symbolClass s) (largestClass l)
+    by true e g more = omega (arith, more g)
+    by false e g more = omega (arith, no-symbol-class s (leb-false s 8 e))
+
+-- whether it is a class
+pub own-found : (l : List ℕ) (c : ℕ) → c ≤ 2 → eqb (largestClass l) c ≡ allSymbols l && eqb (classOfAll l) c
+own-found l c h = by (allSymbols l) refl
+  where
+    by : (t : Bool) → allSymbols l ≡ t → eqb (largestClass l) c ≡ t && eqb (classOfAll l) c
+    by true e = rw (found-class l e) refl
+    by false e = ne-eqb (largestClass l) c (λ f. omega (arith, found-none l e))
+
+-- what the code answers for it
+pub least-found : (l : List ℕ) → statesOrNone (largestClass l) ≡ minStates l
 unfolding minStates
-min-some l h = rw (all-largest l, le-leb (largestOf l) 8 h, class-largest l) refl
+least-found l = by (allSymbols l) refl
+  where
+    by : (t : Bool) → allSymbols l ≡ t → statesOrNone (largestClass l) ≡ pick t (Some (statesOf (classOfAll l))) None
+    by true e = rw (found-class l e, le-leb (classOfAll l) 2 (class-all-small l)) refl
+    by false e = rw (lt-leb (largestClass l) 2 (found-none l e)) refl
+
+-- symbols of class Two
+pub two-found : (l : List ℕ) → ((i : ℕ) → getD l i 0 < 2) → largestClass l ≡ 0
+unfolding largestClass
+two-found [] h = refl
+two-found (s ∷ l) h =
+    let k : s < 2 = h 0 in
+    let e : symbolClass s ≡ 0 = symbol-class s (omega arith) ∙ class-two s k in
+    rw (e, two-found l (λ i. h (suc i))) refl
 
 -- the larger of two classes, by the test on their numbers
 pub join-right : (a b : States) {x y : ℕ} → x ≡ classNumber a → y ≡ classNumber b → x < y → b ≡ statesOf (max (classNumber a) (classNumber b))

@@ -1,4 +1,5 @@
 pub mod SymbolLaws
 pub mod ClassLaws
+pub mod OrLaws
 pub mod RealLaws
 pub mod Cases

@@ -1,4 +1,4 @@
--- A byte's symbol is below 9, so that 255 can say "no symbol"; and each symbol has its letter.
+-- A byte's symbol is below 9, so that 255 can say "no symbol"; each symbol has its letter; and the cases of the letters say its class.
 -- Assumes nothing.
 use Prim.Native.Nat.{ℕ, zero, suc, _+_, _-_, _≤_, _<_}
 use mathlib.Core.Path.{_≡_, refl, sym, subst, _∙_}
@@ -11,7 +11,8 @@ use lib.Dec.{eqb, leb, eqb→eq}
 use lib.ListN.{length, getD}
 use Rattle.lists.specs.Choice.{pick}
 use Rattle.lists.proofs.ChoiceLaws.{both-hold}
-use Rattle.lists.proofs.Table.{at}
+use Rattle.lists.proofs.Table.{at, at-byte}
+use Rattle.value.specs.Class.{symbolClass}
 use Rattle.value.specs.Symbol.{placeFrom, letters, lowered, symbolOf, isDigit, orNumber}
 
 abbrev pub Below : ℕ → Option ℕ → Type 0
@@ -48,6 +49,19 @@ unfolding symbolOf letter-right
 letter-symbol x h =
     let e = eqb→eq _ _ (at letter-right letters tt x (omega arith)) in
     some-number (symbolOf (getD letters x 0)) x (sym e) (λ f. omega arith)
+
+-- the class after one case for each letter of a list, whose symbols are counted from n
+abbrev pub caseBy : (b n class : ℕ) → List ℕ → ℕ
+caseBy b n class [] = class
+caseBy b n class (x ∷ l) = caseBy b (suc n) (pick (eqb b x) (symbolClass n) class) l
+
+-- the cases of all letters: one test over the bytes
+cases-right : ℕ → Bool
+cases-right b = eqb (caseBy (lowered b) 0 3 letters) (symbolClass (orNumber 255 (symbolOf b)))
+
+pub cases-class : (b : ℕ) → b < 256 → caseBy (lowered b) 0 3 letters ≡ symbolClass (orNumber 255 (symbolOf b))
+unfolding symbolOf cases-right
+cases-class b h = eqb→eq _ _ (at-byte cases-right tt b h)
 
 -- the letters 0 and 1
 pub digit-symbol : (b : ℕ) (t : Bool) → t ≡ isDigit b → t ≡ true → (48 ≤ b) × (b ≤ 49) × (symbolOf b ≡ some (b - 48))

@@ -4,6 +4,7 @@
 use Prim.Native.Nat.{ℕ, zero, suc, max}
 use mathlib.Core.Bool.{Bool, true, _&&_}
 use mathlib.Core.List.{List, [], _∷_}
+use lib.Bits.{bitOr}
 use lib.Dec.{ltb, leb}
 use Rattle.lists.specs.Choice.{pick}
 use Rattle.value.specs.declared.states.States.{States}
@@ -46,7 +47,27 @@ allSymbols (s ∷ l) = leb s 8 && allSymbols l
 unfoldable pub minStates : List ℕ → MaybeStates
 minStates s = pick (allSymbols s) (Some (statesOf (classOfAll s))) None
 
--- the largest symbol, by which the code finds the class (proofs/ClassLaws: class-largest)
-unfoldable pub largestOf : List ℕ → ℕ
-largestOf [] = 0
-largestOf (s ∷ l) = max s (largestOf l)
+-- ---- how the class is found
+
+-- the class of a number by itself; 3 says that it is no symbol
+abbrev pub symbolClass : ℕ → ℕ
+symbolClass s = pick (leb s 8) (classOf s) 3
+
+-- the larger as it goes; 3 says that one is no symbol
+unfoldable pub largestClass : List ℕ → ℕ
+largestClass [] = 0
+largestClass (s ∷ l) = max (symbolClass s) (largestClass l)
+
+-- a class so found, as the code answers it; of a value's numbers it is `minStates` (proofs/ClassLaws: least-found)
+abbrev pub statesOrNone : ℕ → MaybeStates
+statesOrNone c = pick (leb c 2) (Some (statesOf c)) None
+
+-- ---- the Rust's way: the symbol numbers or-ed together, read as 0..1, 2..3, or 4 and more (proofs/OrLaws: class-by-or). Numbers or-ed may be
+-- above 8; `classOf` is for symbols, so the reading stands here
+
+unfoldable pub orAll : List ℕ → ℕ
+orAll [] = 0
+orAll (s ∷ l) = bitOr s (orAll l)
+
+abbrev pub classOfOr : ℕ → ℕ
+classOfOr n = pick (leb n 1) 0 (pick (leb n 3) 1 2)

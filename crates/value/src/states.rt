@@ -1,8 +1,12 @@
 // The class of a symbol and of a value: how many states a symbol can have.
+//
+// A value's class is found by cases of its symbols, taking the larger class as it goes: `symbol_class` and `larger`, in text and in packed
+// values. Width 1 has one symbol, whose class `from_bit` gives.
+// That this is also the class of the symbol numbers or-ed together is `class-by-or` of proofs/OrLaws.antt.
 use crate::symbol::Bit;
 ghost use mathlib.Core.Path.{_≡_};
 ghost use Prim.Native.Nat.{_≤_, max};
-ghost use Rattle.value.specs.Class.{classNumber, statesOf, classOf, bitsOf};
+ghost use Rattle.value.specs.Class.{classNumber, statesOf, classOf, symbolClass, statesOrNone, bitsOf};
 
 // Document 01's class.
 pub enum States {
@@ -15,6 +19,48 @@ pub enum States {
 pub enum MaybeStates {
     Some(States),
     None,
+}
+
+// The number of a symbol's class, by cases of the symbol; 3 says that there is no such symbol. No case ends the search, so the compiler can look
+// at many symbols at a time.
+pub fn symbol_class(symbol: u8) -> u8
+    ensures { λ r. ⌜ r ≡ symbolClass symbol ⌝ }
+{
+    // 0 1
+    let mut class: u8 = 0;
+    // x z
+    if 2 <= symbol {
+        class = 1;
+    }
+    // h u w l -
+    if 4 <= symbol {
+        class = 2;
+    }
+    // no symbol
+    if 9 <= symbol {
+        class = 3;
+    }
+    class
+}
+
+// The larger of two classes.
+pub fn larger(a: u8, b: u8) -> u8
+    ensures { λ r. ⌜ r ≡ max a b ⌝ }
+{
+    if a < b {
+        return b;
+    }
+    a
+}
+
+// The enum of a class's number; none for a larger number, which says that one is no symbol.
+pub fn states_or_none(class: u8) -> MaybeStates
+    ensures { λ r. ⌜ r ≡ statesOrNone class ⌝ }
+{
+    if class <= 2 {
+        return MaybeStates::Some(States::from_number(class));
+    }
+    MaybeStates::None
 }
 
 impl States {

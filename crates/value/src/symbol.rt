@@ -271,7 +271,7 @@ const BIT_CHAR_TO_NUM: [u8; 256] = [
     255,
 ];
 
-// The table's number of a byte. The table is made anew at each use, so the letters 0 and 1, of which most values are, do without it.
+// The table's number of a byte. The table is made anew at each use: what goes through many letters does without it.
 fn table_number(value: u8) -> u8
     ensures { λ r. ⌜ r ≡ orNumber 255 (symbolOf value) ⌝ }
 {
@@ -289,17 +289,7 @@ pub fn is_digit(value: u8) -> bool
     value <= b'1'
 }
 
-// The number of the byte's symbol, 255 where it has none.
-pub fn symbol_number(value: u8) -> u8
-    ensures { λ r. ⌜ r ≡ orNumber 255 (symbolOf value) ⌝ }
-{
-    if is_digit(value) {
-        return value - b'0';
-    }
-    table_number(value)
-}
-
-// The byte's symbol. It looks into the table itself: with two callers the table stays out of both, which are short then.
+// The byte's symbol: 0 and 1, of which most values are, by their code, the others by the table.
 pub fn bit_char_to_num(value: u8) -> MaybeBit
     ensures { λ r. ⌜ r ≡ maybeBit (symbolOf value) ⌝ }
 {

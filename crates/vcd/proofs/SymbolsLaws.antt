@@ -1,33 +1,27 @@
--- The symbols of bytes: by induction over the bytes, one byte more at a time; their class is that of the largest symbol.
+-- The symbols of bytes: by induction over the bytes, one byte more at a time; their class is the largest that a byte's symbol has.
 -- Assumes nothing.
-use Prim.Native.Nat.{ℕ, zero, suc, _+_, _-_, _≤_, _<_, max, zero-le}
-use mathlib.Core.Path.{_≡_, refl, sym, ap, _∙_}
+use Prim.Native.Nat.{ℕ, zero, suc, _+_, _-_, _≤_, _<_, max}
+use mathlib.Core.Path.{_≡_, refl, ap, _∙_}
 use mathlib.Core.Bool.{Bool, true, false, _&&_}
-use mathlib.Core.List.{List, [], _∷_}
+use mathlib.Core.List.{List, [], _∷_, map}
 use mathlib.Core.Option.{Option, some, none}
-use native.Mathlib.Nat.{zero-max, max-zero}
 use native.Mathlib.Numerals.{add-one}
 use native.Mathlib.Omega.{arith}
-use borrow.Author.Tests.{le-leb, lt-ltb}
+use borrow.Author.Tests.{le-leb}
 use lib.Dec.{leb}
 use lib.ListN.{length, getD, drop, drop-of-length-le}
 use lib.Seq.{drop-cons}
 use Rattle.lists.specs.Choice.{bind}
 use Rattle.lists.proofs.ChoiceLaws.{Where, where-some, where-bind, both-hold}
 use Rattle.value.specs.Symbol.{symbolOf, isDigit, orNumber}
-use Rattle.value.specs.Class.{statesOf, classOf, allSymbols, largestOf}
-use Rattle.value.specs.declared.states.MaybeStates.{MaybeStates}
-use Rattle.value.specs.declared.states.MaybeStates.the-variants.{Some, None}
-use Rattle.value.proofs.SymbolLaws.{Below, symbol-below, none-number, some-number, digit-symbol}
-use Rattle.value.proofs.ClassLaws.{class-largest}
+use Rattle.value.specs.Class.{allSymbols, minStates, symbolClass, largestClass, statesOrNone}
+use Rattle.value.specs.declared.states.MaybeStates.the-variants.{Some}
+use Rattle.value.proofs.SymbolLaws.{Below, symbol-below, digit-symbol}
+use Rattle.value.proofs.ClassLaws.{class-two, symbol-class, least-found}
 use Rattle.value.specs.declared.states.States.the-variants.{Two}
 use Rattle.vcd.specs.Vcd.{symbolsIn, asciiStates, allDigits}
 
 -- one byte more
-pub symbols-none : (b : ℕ) (u : List ℕ) → symbolOf b ≡ none → symbolsIn (b ∷ u) ≡ none
-unfolding symbolsIn
-symbols-none b u e = rw e refl
-
 pub symbols-more : (b : ℕ) (u : List ℕ) {x : ℕ} {s : List ℕ} → symbolOf b ≡ some x → symbolsIn u ≡ some s → symbolsIn (b ∷ u) ≡ some (x ∷ s)
 unfolding symbolsIn
 symbols-more b u e f = rw (e, f) refl
@@ -67,50 +61,57 @@ symbols-of u = where-some (Symbols u) (symbolsIn u) (symbols-is u)
 pub symbols-number : {u s : List ℕ} → Symbols u s → (i : ℕ) → i < length u → orNumber 255 (symbolOf (getD u i 0)) ≡ getD s i 0
 symbols-number h i k = ap (orNumber 255) (h .at i k)
 
--- the class, by the largest symbol seen and the symbols that follow
-abbrev pub seen : ℕ → Option (List ℕ) → MaybeStates
-seen m none = None
-seen m (some s) = Some (statesOf (classOf (max m (largestOf s))))
+-- ---- the class of a text
 
-pub seen-start : (o : Option (List ℕ)) → seen 0 o ≡ asciiStates o
-seen-start none = refl
-seen-start (some s) = rw (zero-max, class-largest) refl
+-- the symbols' numbers, 255 for a byte without symbol
+abbrev pub numbersIn : List ℕ → List ℕ
+numbersIn u = map (λ (b : ℕ). orNumber 255 (symbolOf b)) u
 
-seen-more : (m b : ℕ) (u : List ℕ) {x : ℕ} → symbolOf b ≡ some x → seen m (symbolsIn (b ∷ u)) ≡ seen (max m x) (symbolsIn u)
-unfolding symbolsIn largestOf
-seen-more m b u {x} e = rw e (by (symbolsIn u))
+-- they are the symbols, or one of them is above 8
+Numbered : List ℕ → Option (List ℕ) → Type 0
+Numbered u none = allSymbols (numbersIn u) ≡ false
+Numbered u (some s) = (numbersIn u ≡ s) × (allSymbols s ≡ true)
+
+numbered : (u : List ℕ) → Numbered u (symbolsIn u)
+unfolding symbolsIn allSymbols Numbered
+numbered [] = (refl, refl)
+numbered (b ∷ u) = by (symbolOf b) refl (symbolsIn u) (numbered u)
   where
-    by : (o : Option (List ℕ)) → seen m (bind o (λ l. some (x ∷ l))) ≡ seen (max m x) o
-    by none = refl
-    by (some l) = let h : max m (max x (largestOf l)) ≡ max (max m x) (largestOf l) = omega arith in rw h refl
+    by : (o : Option ℕ) → symbolOf b ≡ o → (r : Option (List ℕ)) → Numbered u r → Numbered (b ∷ u) (bind o (λ x. bind r (λ s. some (x ∷ s))))
+    by none e r h = rw e refl
+    by (some x) e none h = rw (e, symbol-small b e) h
+    by (some x) e (some s) h = (rw (e, h .0) refl, rw (symbol-small b e) (h .1))
 
-pub seen-next : (m i : ℕ) (u : List ℕ) {x : ℕ} → i < length u → x ≡ orNumber 255 (symbolOf (getD u i 0)) → (x ≡ 255 → ⊥)
-    → seen m (symbolsIn (drop i u)) ≡ seen (max m x) (symbolsIn (drop (i + 1) u))
-seen-next m i u {x} h e f =
-    let n = some-number (symbolOf (getD u i 0)) x e f in
-    rw (add-one i, drop-cons u i 0 h) (seen-more m (getD u i 0) (drop (suc i) u) n)
+-- by the largest class of the numbers
+pub numbers-class : (u : List ℕ) → statesOrNone (largestClass (numbersIn u)) ≡ asciiStates (symbolsIn u)
+numbers-class u = least-found (numbersIn u) ∙ by (symbolsIn u) (numbered u)
+  where
+    by : (o : Option (List ℕ)) → Numbered u o → minStates (numbersIn u) ≡ asciiStates o
+    by none h = unfold minStates Numbered in rw h refl
+    by (some s) h = unfold minStates Numbered in rw (h .0, h .1) refl
 
-pub seen-bad : (m i : ℕ) (u : List ℕ) {x : ℕ} → i < length u → x ≡ orNumber 255 (symbolOf (getD u i 0)) → x ≡ 255
-    → seen m (symbolsIn (drop i u)) ≡ None
-seen-bad m i u h e f =
-    let n = none-number (symbolOf (getD u i 0)) (symbol-below (getD u i 0)) (sym e ∙ f) in
-    rw (drop-cons u i 0 h, symbols-none (getD u i 0) (drop (suc i) u) n) refl
+-- one letter more, and none
+pub class-next : (i : ℕ) (u : List ℕ) → i < length u
+    → largestClass (numbersIn (drop i u)) ≡ max (symbolClass (orNumber 255 (symbolOf (getD u i 0)))) (largestClass (numbersIn (drop (i + 1) u)))
+unfolding largestClass
+class-next i u h = rw (add-one i, drop-cons u i 0 h) refl
 
-pub seen-end : (m i : ℕ) (u : List ℕ) → length u ≤ i → seen m (symbolsIn (drop i u)) ≡ Some (statesOf (classOf m))
-unfolding symbolsIn largestOf
-seen-end m i u h = rw (drop-of-length-le u h, max-zero m) refl
+pub class-end : (i : ℕ) (u : List ℕ) → length u ≤ i → largestClass (numbersIn (drop i u)) ≡ 0
+unfolding largestClass
+class-end i u h = rw (drop-of-length-le u h) refl
 
 -- letters 0 and 1 alone
-seen-binary : (m : ℕ) (u : List ℕ) → m < 2 → allDigits u ≡ true → seen m (symbolsIn u) ≡ Some Two
-unfolding allDigits
-seen-binary m [] h e = seen-end m 0 [] zero-le ∙ rw (lt-ltb m 2 h) refl
-seen-binary m (b ∷ u) h e =
+digits-class : (u : List ℕ) → allDigits u ≡ true → largestClass (numbersIn u) ≡ 0
+unfolding allDigits largestClass
+digits-class [] e = refl
+digits-class (b ∷ u) e =
     let p = both-hold (isDigit b) (allDigits u) e in
     let d = digit-symbol b (isDigit b) refl (p .0) in
-    seen-more m b u (d .2) ∙ seen-binary (max m (b - 48)) u (omega arith) (p .1)
+    let k : symbolClass (b - 48) ≡ 0 = symbol-class (b - 48) (omega arith) ∙ class-two (b - 48) (omega arith) in
+    rw (d .2, k, digits-class u (p .1)) refl
 
 pub binary-two : (u : List ℕ) → allDigits u ≡ true → Some Two ≡ asciiStates (symbolsIn u)
-binary-two u e = sym (seen-binary 0 u (omega arith) e) ∙ seen-start (symbolsIn u)
+binary-two u e = rw (digits-class u e) at (numbers-class u)
 
 -- one letter more
 digits-from : (i : ℕ) (u : List ℕ) → i < length u → allDigits (drop i u) ≡ isDigit (getD u i 0) && allDigits (drop (i + 1) u)

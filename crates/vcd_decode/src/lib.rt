@@ -2,13 +2,15 @@
 //
 // The contracts cite specs/Vcd.antt of the crate vcd. `decode_vcd_bit_vec_change` has no `requires`: a bad value is an answer.
 use value::change::BitVecChange;
+use value::letter::letter_class;
 use value::states::MaybeStates;
 use value::states::States;
+use value::states::larger;
+use value::states::states_or_none;
 use value::symbol::Bit;
 use value::symbol::MaybeBit;
 use value::symbol::bit_char_to_num;
 use value::symbol::is_digit;
-use value::symbol::symbol_number;
 use vcd_text::vcd_text;
 ghost use mathlib.Core.Path.{_≡_};
 ghost use Prim.Native.Nat.{_<_};
@@ -35,22 +37,17 @@ fn is_binary(text: &[u8]) -> bool
 fn states_from_ascii(text: &[u8]) -> MaybeStates
     ensures { λ r. ⌜ r ≡ asciiStates (symbolsIn (now (text .entry))) ⌝ }
 {
+    // a text of 0 and 1 alone is Two: the first case, for all letters at once
     if is_binary(text) {
         return MaybeStates::Some(States::Two);
     }
-    let mut largest: u8 = 0;
+    let mut class: u8 = 0;
     let mut i = 0;
     while i < text.len() {
-        let x = symbol_number(text[i]);
-        if x == 255 {
-            return MaybeStates::None;
-        }
-        if largest < x {
-            largest = x;
-        }
+        class = larger(class, letter_class(text[i]));
         i += 1;
     }
-    MaybeStates::Some(States::from_bit(Bit(largest)))
+    states_or_none(class)
 }
 
 // A value of width 1: its last byte counts alone; nothing, or a last `b`, is 0.
@@ -87,7 +84,8 @@ fn decode_vcd_text(width: u32, text: &[u8]) -> BitVecChange
             if text.len() == width as usize {
                 return BitVecChange::MultiBit(states);
             }
-            if symbol_number(text[0]) < 4 {
+            // below Nine: 0 1 x z extend
+            if letter_class(text[0]) < 2 {
                 return BitVecChange::MultiBit(states);
             }
             BitVecChange::Bad

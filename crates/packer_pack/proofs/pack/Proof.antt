@@ -1,5 +1,5 @@
 -- A source in the class is copied; of another the bytes before the whole ones are written, and then those.
-use Prim.Native.Nat.{ℕ, _*_, _/_, _≤_}
+use Prim.Native.Nat.{ℕ, _+_, _*_, _/_, _≤_}
 use mathlib.Core.Path.{_≡_, sym, ap, _∙_}
 use native.Mathlib.Omega.{arith}
 use lib.ListN.{length}
@@ -8,7 +8,7 @@ use Rattle.value.specs.Class.{classNumber}
 use Rattle.packed.specs.Packed.{perByte, digits, packedLength, packed, unpacked}
 use Rattle.packer.specs.Notation.{symbolsFrom}
 use Rattle.packer.specs.Number.{numberIn, Held, standingIn}
-use Rattle.packer.proofs.PackLaws.{some-per-byte, whole-in}
+use Rattle.packer.proofs.PackLaws.{some-per-byte, whole-in, whole-near}
 use Rattle.packer.proofs.NotationLaws.{same-class, standing-in, packed-digits}
 use borrow.Author.Needs.{needs}
 use Rattle.packer_pack.proofs.pack.Statement.{statement}
@@ -35,6 +35,13 @@ whole c =
     let a = s .args in
     rw (c .before .standing .ensures, c .per-byte .ensures)
     (whole-in (classNumber (a .states)) (standingIn (a .notation) (a .width) (a .src .now)) (a .width) (standing-in (a .notation) (a .width) (a .src .now) (s .pre .0)))
+
+-- and one more byte would have all of it
+near : (c : tie.After-per-byte) → let a = c .before .before .before .before .before .before .args in
+    standingIn (a .notation) (a .width) (a .src .now) ≤ (c .before .standing .result / c .per-byte .result + 1) * perByte (classNumber (a .states))
+near c =
+    let a = c .before .before .before .before .before .before .args in
+    rw (c .before .standing .ensures, c .per-byte .ensures) (whole-near (classNumber (a .states)) (standingIn (a .notation) (a .width) (a .src .now)))
 
 -- the whole bytes, written, give the final buffer
 written : (c : tie.After-part-bytes) → let r = c .before .before in let a = r .before .before .before .before .before .before .args in
@@ -69,7 +76,7 @@ div-whole c = rw (c .per-byte .ensures) (some-per-byte (classNumber (c .before .
 part-bytes-requires : tie.Need-part-bytes-requires
 part-bytes-requires c κs =
     let s = c .before .before .before .before .before .before .before in
-    (held s, (whole (c .before) .1, s .pre .1 .1))
+    ((held s, near (c .before)), (whole (c .before) .1, s .pre .1 .1))
 
 enum-told : tie.Need-enum-told
 enum-told c = search needs

@@ -1,69 +1,78 @@
--- By the loop's law, with the byte of `part_byte`.
-use Prim.Native.Nat.{_≤_}
-use mathlib.Core.Path.{_≡_}
+-- Where there are no such bytes, nothing; where there are few, one part; else three parts one after the other, each as its function says.
+use mathlib.Core.Path.{refl, _∙_}
 use native.Mathlib.Omega.{arith}
-use Rattle.value.specs.Class.{classNumber}
-use Rattle.packed.specs.Packed.{packedLength}
-use Rattle.packer.specs.Number.{numberIn}
-use Rattle.packer.proofs.PackLaws.{Written, written-none, written-more}
+use borrow.Author.Needs.{needs}
 use Rattle.packer_pack.proofs.part_bytes.Statement.{statement}
 use Rattle.packer_pack.proofs.part_bytes.Tie as tie
 
-abbrev Inv-loop : tie.InvT-loop
-Inv-loop out₀ at src notation width whole states o₀ left₀ out o left =
-    (whole ≤ left) × Written (numberIn (classNumber states) notation width src) out₀ at (packedLength width (classNumber states)) out o left
-
-abbrev μ-loop : tie.MeasureT-loop
-μ-loop out₀ at src notation width whole states o₀ left₀ out o left = left
-
-bytes-required-requires : tie.Need-bytes-required-requires Inv-loop μ-loop
+bytes-required-requires : tie.Need-bytes-required-requires
 bytes-required-requires c κs = tt
 
-loop-holds : tie.Need-loop-holds Inv-loop μ-loop
-loop-holds c = rw (c .bytes-required .ensures) (c .before .before .before .pre .1 .0, written-none _ _ _ _)
+returns : tie.Need-returns
+returns c = rw (← (c .before .bytes-required .ensures), c .if1 .taken) (refl, refl)
 
-sub-left : tie.Need-sub-left Inv-loop μ-loop
-sub-left c = omega arith
+sub-if2 : tie.Need-sub-if2
+sub-if2 c = omega arith
 
-part-byte-requires : tie.Need-part-byte-requires Inv-loop μ-loop
-part-byte-requires c κs = (c .before .before .before .before .before .pre .0, omega arith)
+symbol-bytes-requires : tie.Need-symbol-bytes-requires
+symbol-bytes-requires c κs = let s = c .before .before .before .before .before .before in (s .pre .0 .0, omega arith)
 
-slice-write-out : tie.Need-slice-write-out Inv-loop μ-loop
-slice-write-out c = omega arith
+same-length : tie.Need-same-length
+same-length c = search needs
 
-add-o : tie.Need-add-o Inv-loop μ-loop
-add-o c = omega arith
+returns-2 : tie.Need-returns-2
+returns-2 c =
+    let p = c .before .before in
+    rw (← (p .before .before .before .before .bytes-required .ensures)) (p .symbol-bytes .ensures)
 
-loop-less : tie.Need-loop-less Inv-loop μ-loop
-loop-less c = omega arith
+sub-symbol-bytes : tie.Need-sub-symbol-bytes
+sub-symbol-bytes c = omega arith
 
-loop-again : tie.Need-loop-again Inv-loop μ-loop
-loop-again c =
-    let l = c .before .before .loop in
-    (omega arith, written-more _ _ _ _ (l .out) (l .o) (l .left) (omega arith) (l .inv .1) (c .part-byte .ensures))
+symbol-bytes-requires-2 : tie.Need-symbol-bytes-requires-2
+symbol-bytes-requires-2 c κs = let s = c .before .before .before .before .before .before in (s .pre .0 .0, omega arith)
 
-same-length : tie.Need-same-length Inv-loop μ-loop
-same-length c = c .before .loop .inv .1 .1
+sub-alike-bytes : tie.Need-sub-alike-bytes
+sub-alike-bytes c = omega arith
 
-returns : tie.Need-returns Inv-loop μ-loop
-returns c =
-    let l = c .before .loop in
-    let e : l .left ≡ c .before .before .before .before .before .args .whole = omega arith in
-    (omega arith, rw e at (l .inv .1 .3))
+add-alike-bytes : tie.Need-add-alike-bytes
+add-alike-bytes c = omega arith
+
+alike-bytes-requires : tie.Need-alike-bytes-requires
+alike-bytes-requires c κs = let s = c .before .before .before .before .before .before .before .before .before .before in (s .pre .0, omega arith)
+
+add-symbol-bytes : tie.Need-add-symbol-bytes
+add-symbol-bytes c = omega arith
+
+symbol-bytes-requires-3 : tie.Need-symbol-bytes-requires-3
+symbol-bytes-requires-3 c κs = let s = c .before .before .before .before .before .before .before .before .before .before .before .before .before .before in (s .pre .0 .0, omega arith)
+
+same-length-2 : tie.Need-same-length-2
+same-length-2 c = search needs
+
+returns-3 : tie.Need-returns-3
+returns-3 c =
+    let last = c .before .before in
+    let alike = last .before .before .before .before in
+    let first = alike .before .before .before .before in
+    let all = last .symbol-bytes3 .ensures .1 ∙ alike .alike-bytes .ensures .1 ∙ first .symbol-bytes2 .ensures .1 in
+    rw (← (first .before .before .before .before .bytes-required .ensures)) (omega arith, all)
 
 pub part-bytes-spec : {M : Type 1} → statement M
 part-bytes-spec =
     tie.close
     (tie.spec
-    Inv-loop
-    μ-loop
     bytes-required-requires
-    loop-holds
-    sub-left
-    part-byte-requires
-    slice-write-out
-    add-o
-    loop-less
-    loop-again
+    returns
+    sub-if2
+    symbol-bytes-requires
     same-length
-    returns)
+    returns-2
+    sub-symbol-bytes
+    symbol-bytes-requires-2
+    sub-alike-bytes
+    add-alike-bytes
+    alike-bytes-requires
+    add-symbol-bytes
+    symbol-bytes-requires-3
+    same-length-2
+    returns-3)

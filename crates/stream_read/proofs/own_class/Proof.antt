@@ -1,7 +1,12 @@
--- Top bits, symbols and class, by the tests in that order.
+-- Top bits first; where they are zero, all bytes have the class of the symbols (`class-clear`).
+use mathlib.Core.Path.{sym, _∙_}
+use native.Mathlib.Nat.{sub-zero}
+use native.Mathlib.Omega.{arith}
 use borrow.Author.Tests.{not-true, not-false}
 use Rattle.value.specs.Class.{classNumber}
-use Rattle.stream.proofs.ReadLaws.{own-top, own-none, own-some}
+use Rattle.value.proofs.ClassLaws.{number-small}
+use Rattle.packed_class.proofs.ByteLaws.{class-clear}
+use Rattle.stream.proofs.ReadLaws.{own-top, own-by-class}
 use borrow.Author.Needs.{needs}
 use Rattle.stream_read.proofs.own_class.Statement.{statement}
 use Rattle.stream_read.proofs.own_class.Tie as tie
@@ -14,46 +19,22 @@ returns c =
     let a = c .before .before .before .args in
     own-top (a .width) (classNumber (a .states)) (a .part .now) _ (c .before .top-clear .ensures) (not-true _ (c .if1 .taken))
 
-find-min-states-requires : tie.Need-find-min-states-requires
-find-min-states-requires c κs = search needs
-
-enum-known-least : tie.Need-enum-known-least
-enum-known-least c = search needs
+class-from-requires : tie.Need-class-from-requires
+class-from-requires c κs = omega arith
 
 number-requires : tie.Need-number-requires
 number-requires c κs = search needs
 
-number-requires-2 : tie.Need-number-requires-2
-number-requires-2 c κs = search needs
-
-enum-told : tie.Need-enum-told
-enum-told c = search needs
-
 returns-2 : tie.Need-returns-2
 returns-2 c =
-    let f = c .before .before .before .before .before in
-    let a = c .before .before .before .before .before .before .before .before .before .args in
-    own-some (a .width) (classNumber (a .states)) (a .part .now) (f .before .before .top-clear .result) (f .find-min-states .result) _ _ _
-    (f .before .before .top-clear .ensures) (not-false _ (f .before .if1 .left)) (f .find-min-states .ensures) (c .before .before .before .least .given .1)
-    (c .before .number .ensures) (c .number2 .ensures)
-
-returns-3 : tie.Need-returns-3
-returns-3 c =
-    let f = c .before .before in
-    let a = c .before .before .before .before .before .before .args in
-    own-none (a .width) (classNumber (a .states)) (a .part .now) (f .before .before .top-clear .result) (f .find-min-states .result)
-    (f .before .before .top-clear .ensures) (not-false _ (f .before .if1 .left)) (f .find-min-states .ensures) (c .enum-told .given .1)
+    let f = c .before in
+    let t = f .before .before in
+    let s = t .before .before in
+    let a = s .args in
+    let clear = not-false _ (f .before .if1 .left) in
+    let class = class-clear (a .width) (classNumber (a .states)) (a .part .now) (s .pre .1) (sym (t .top-clear .ensures) ∙ clear) in
+    own-by-class (a .width) (classNumber (a .states)) (a .part .now) (t .top-clear .result) _ _ (t .top-clear .ensures) clear
+    ((rw sub-zero at (f .class-from .ensures)) ∙ class) (c .number .ensures) (number-small (a .states))
 
 pub own-class-spec : {M : Type 1} → statement M
-own-class-spec =
-    tie.close
-    (tie.spec
-    top-clear-requires
-    returns
-    find-min-states-requires
-    enum-known-least
-    number-requires
-    number-requires-2
-    enum-told
-    returns-2
-    returns-3)
+own-class-spec = tie.close (tie.spec top-clear-requires returns class-from-requires number-requires returns-2)

@@ -9,6 +9,7 @@ use Rattle.lists.specs.Choice.{pick}
 use Rattle.value.specs.Symbol.{symbolOf, orNumber}
 use Rattle.value.specs.Change.{changeOf}
 use Rattle.value.specs.declared.change.BitVecChange.the-variants.{MultiBit, Bad}
+use Rattle.value.proofs.ClassLaws.{below-nine}
 use Rattle.vcd.specs.Vcd.{textSymbols}
 use Rattle.vcd.proofs.VcdLaws.{text-empty, text-long, text-bad, text-change}
 use Rattle.vcd_decode.proofs.decode_vcd_text.Statement.{statement}
@@ -45,17 +46,17 @@ enum-known-states c = search needs
 returns-3 : tie.Need-returns-3
 returns-3 c = sym (change (c .before) ∙ rw (eq-eqb _ _ (c .if3 .taken)) refl)
 
-shared-slice-read-symbol-number : tie.Need-shared-slice-read-symbol-number
-shared-slice-read-symbol-number c = search needs
+shared-slice-read-letter-class : tie.Need-shared-slice-read-letter-class
+shared-slice-read-letter-class c = search needs
 
-symbol-number-requires : tie.Need-symbol-number-requires
-symbol-number-requires c κs = search needs
+letter-class-requires : tie.Need-letter-class-requires
+letter-class-requires c κs = search needs
 
 returns-4 : tie.Need-returns-4
 returns-4 c =
-    let first = c .before .symbol-number in
+    let first = c .before .letter-class in
     let short = ne-eqb _ _ (c .before .before .before .if3 .left) in
-    sym (change (c .before .before .before .before) ∙ rw (short, ← (first .ensures), lt-ltb (first .result) 4 (search needs)) refl)
+    sym (change (c .before .before .before .before) ∙ rw (short, below-nine, ← (first .ensures), lt-ltb (first .result) 2 (search needs)) refl)
 
 returns-5 : tie.Need-returns-5
 returns-5 c =
@@ -64,9 +65,9 @@ returns-5 c =
 
 returns-6 : tie.Need-returns-6
 returns-6 c =
-    let first = c .before .symbol-number in
+    let first = c .before .letter-class in
     let short = ne-eqb _ _ (c .before .before .before .if3 .left) in
-    sym (change (c .before .before .before .before) ∙ rw (short, ← (first .ensures), le-ltb (first .result) 4 (search needs)) refl)
+    sym (change (c .before .before .before .before) ∙ rw (short, below-nine, ← (first .ensures), le-ltb (first .result) 2 (search needs)) refl)
 
 pub decode-vcd-text-spec : {M : Type 1} → statement M
 decode-vcd-text-spec =
@@ -78,8 +79,8 @@ decode-vcd-text-spec =
     enum-told
     enum-known-states
     returns-3
-    shared-slice-read-symbol-number
-    symbol-number-requires
+    shared-slice-read-letter-class
+    letter-class-requires
     returns-4
     returns-5
     returns-6)

@@ -1,20 +1,20 @@
--- The invariant: the largest symbol so far, with the symbols that follow, gives the class of the whole.
+-- The invariant: the largest class so far, with that of the letters that follow, is the text's.
 use Prim.Native.Nat.{_≤_, _-_, max}
-use mathlib.Core.Logic.{⊎-elim}
-use mathlib.Core.Path.{_≡_, sym, _∙_}
+use mathlib.Core.Path.{_≡_, sym, ap, _∙_}
+use native.Mathlib.Nat.{zero-max}
 use native.Mathlib.Omega.{arith}
 use borrow.Author.Needs.{needs}
 use lib.ListN.{length, drop}
-use Rattle.vcd.specs.Vcd.{symbolsIn, asciiStates}
-use Rattle.vcd.proofs.SymbolsLaws.{seen, seen-start, seen-next, seen-bad, seen-end, binary-two}
+use Rattle.value.specs.Class.{largestClass, statesOrNone}
+use Rattle.vcd.proofs.SymbolsLaws.{numbersIn, numbers-class, class-next, class-end, binary-two}
 use Rattle.vcd_decode.proofs.states_from_ascii.Statement.{statement}
 use Rattle.vcd_decode.proofs.states_from_ascii.Tie as tie
 
 abbrev Inv-loop : tie.InvT-loop
-Inv-loop text largest₀ i₀ largest i = (i ≤ length text) × (seen largest (symbolsIn (drop i text)) ≡ asciiStates (symbolsIn text))
+Inv-loop text class₀ i₀ class i = (i ≤ length text) × (max class (largestClass (numbersIn (drop i text))) ≡ largestClass (numbersIn text))
 
 abbrev μ-loop : tie.MeasureT-loop
-μ-loop text largest₀ i₀ largest i = length text - i
+μ-loop text class₀ i₀ class i = length text - i
 
 is-binary-requires : tie.Need-is-binary-requires Inv-loop μ-loop
 is-binary-requires c κs = search needs
@@ -23,19 +23,16 @@ returns : tie.Need-returns Inv-loop μ-loop
 returns c = binary-two _ (sym (c .before .is-binary .ensures) ∙ c .if1 .taken)
 
 loop-holds : tie.Need-loop-holds Inv-loop μ-loop
-loop-holds c = (search needs, seen-start (symbolsIn (c .before .before .before .args .text .now)))
+loop-holds c = (search needs, zero-max _)
 
-shared-slice-read-symbol-number : tie.Need-shared-slice-read-symbol-number Inv-loop μ-loop
-shared-slice-read-symbol-number c = search needs
+shared-slice-read-letter-class : tie.Need-shared-slice-read-letter-class Inv-loop μ-loop
+shared-slice-read-letter-class c = search needs
 
-symbol-number-requires : tie.Need-symbol-number-requires Inv-loop μ-loop
-symbol-number-requires c κs = search needs
+letter-class-requires : tie.Need-letter-class-requires Inv-loop μ-loop
+letter-class-requires c κs = search needs
 
-returns-2 : tie.Need-returns-2 Inv-loop μ-loop
-returns-2 c =
-    let l = c .before .before .before .before .loop in
-    let inside = c .before .before .before .loop-test .taken in
-    sym (seen-bad (l .largest) (l .i) _ inside (c .before .symbol-number .ensures) (search needs)) ∙ l .inv .1
+larger-requires : tie.Need-larger-requires Inv-loop μ-loop
+larger-requires c κs = search needs
 
 add-i : tie.Need-add-i Inv-loop μ-loop
 add-i c = search needs
@@ -45,19 +42,23 @@ loop-less c = search needs
 
 loop-again : tie.Need-loop-again Inv-loop μ-loop
 loop-again c =
-    let l = c .before .before .before .before .before .loop in
-    let x = c .before .before .symbol-number in
-    let m : c .if3 .largest ≡ max (l .largest) (x .result) = ⊎-elim (λ w. omega arith) (λ w. omega arith) (c .if3 .came) in
-    let inside = c .before .before .before .before .loop-test .taken in
-    (omega arith, rw m (sym (seen-next (l .largest) (l .i) _ inside (x .ensures) (search needs)) ∙ l .inv .1))
+    let at = c .before .before .before .before in
+    let l = at .loop in
+    let text = at .before .before .before .before .args .text .now in
+    let inside = c .before .before .before .loop-test .taken in
+    let class = c .larger .ensures ∙ ap (max (l .class)) (c .before .letter-class .ensures) in
+    (omega arith, omega (arith, class-next (l .i) text inside, class, l .inv .1))
 
-from-bit-requires : tie.Need-from-bit-requires Inv-loop μ-loop
-from-bit-requires c κs = search needs
+states-or-none-requires : tie.Need-states-or-none-requires Inv-loop μ-loop
+states-or-none-requires c κs = search needs
 
-returns-3 : tie.Need-returns-3 Inv-loop μ-loop
-returns-3 c =
-    let l = c .before .before .loop in
-    rw (c .from-bit .ensures) (sym (seen-end (l .largest) (l .i) _ (c .before .loop-test .left)) ∙ l .inv .1)
+returns-2 : tie.Need-returns-2 Inv-loop μ-loop
+returns-2 c =
+    let at = c .before .before in
+    let l = at .loop in
+    let text = at .before .before .before .before .args .text .now in
+    let class : l .class ≡ largestClass (numbersIn text) = omega (arith, class-end (l .i) text (c .before .loop-test .left), l .inv .1) in
+    c .states-or-none .ensures ∙ ap statesOrNone class ∙ numbers-class text
 
 pub states-from-ascii-spec : {M : Type 1} → statement M
 states-from-ascii-spec =
@@ -68,11 +69,11 @@ states-from-ascii-spec =
     is-binary-requires
     returns
     loop-holds
-    shared-slice-read-symbol-number
-    symbol-number-requires
-    returns-2
+    shared-slice-read-letter-class
+    letter-class-requires
+    larger-requires
     add-i
     loop-less
     loop-again
-    from-bit-requires
-    returns-3)
+    states-or-none-requires
+    returns-2)
