@@ -1,16 +1,12 @@
--- Bytes one after the other: zeros, and a class that the first byte carries.
+-- Bytes one after the other, and a class that the first of them carries.
 -- Assumes nothing.
-use Prim.Native.Nat.{ℕ, suc, _+_, _≤_, _<_}
-use mathlib.Core.Path.{_≡_, refl}
+use Prim.Native.Nat.{ℕ, _+_, _≤_, _<_}
+use mathlib.Core.Path.{_≡_}
 use mathlib.Core.List.{List, [], _∷_, _++_, append-assoc}
 use native.Mathlib.Omega.{arith}
-use lib.ListN.{length, take, drop, getD, set, replicate}
+use lib.ListN.{length, take, drop, getD, set}
 use lib.Seq.{sets, sets-eq, set-at, getD-at, length-take-le}
 use Rattle.loaded.specs.EntryBytes.{carrying}
-
--- one zero more
-pub zeros-more : (n m : ℕ) → n ≡ suc m → replicate {A = ℕ} n 0 ≡ 0 ∷ replicate m 0
-zeros-more n m e = rw e refl
 
 module _ (b l : List ℕ) (at : ℕ) (some : 0 < length b) (room : at + length b ≤ length l) where
   -- what stands at the place of the first

@@ -1,6 +1,7 @@
 // One entry's bytes, out of the change that was read in a stream. Each writes from at on. Document 01, 'Loaded signal'. The contracts cite
 // loaded/specs/EntryBytes.antt.
 use copy::put_part;
+use copy::put_same;
 use entry::length::wide_len;
 use entry::read::bit_in;
 use entry::read::bits_in;
@@ -14,25 +15,13 @@ use value::symbol::Bit;
 ghost use mathlib.Core.Path.{_≡_};
 ghost use mathlib.Core.List.{_∷_, []};
 ghost use Prim.Native.Nat.{_+_, _*_, _≤_, _<_};
-ghost use lib.ListN.{length, getD, replicate, set};
+ghost use lib.ListN.{length, getD, set};
 ghost use lib.Seq.{sets};
 ghost use Rattle.value.specs.Class.{classNumber, classOf, classOfAll};
 ghost use Rattle.signal.specs.Content.{symbolsOf};
 ghost use Rattle.loaded.specs.EntryBytes.{wideEntry, entryBytes};
 ghost use Rattle.entry.specs.Length.{wideLength};
 ghost use Rattle.entry.specs.Read.{wideRead, contentRead, Reads, PackedThere};
-
-fn put_zeros(out: &mut [u8], at: usize, count: usize) -> usize
-    requires { ⌜ at + count ≤ length (now out) ⌝ }
-    ensures { λ r. ⌜ (r ≡ at + count) × (now (out .exit) ≡ sets (now (out .entry)) at (replicate count 0)) ⌝ }
-{
-    let mut i = 0;
-    while i < count {
-        out[at + i] = 0;
-        i += 1;
-    }
-    at + count
-}
 
 // The byte at a place also carries a class.
 fn carry_class(out: &mut [u8], at: usize, states: States)
@@ -59,7 +48,7 @@ fn put_wide(
 {
     let own = bytes_required(states, width);
     let size = wide_len(width, class);
-    let start = put_zeros(out, at, size - own);
+    let start = put_same(out, at, 0, size - own);
     let end = put_part(out, start, stream, next - own, own);
     carry_class(out, at, states);
     end

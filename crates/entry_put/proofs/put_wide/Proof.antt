@@ -25,7 +25,7 @@ both c =
     zeros-then (a .width) (classNumber (a .class)) (classNumber (a .states)) (a .next) (a .stream .now) (p .pre .0 .0) (p .pre .0 .1) (number-small (a .class)) (p .pre .0 .2)
     (a .out .now) (a .at) (p .pre .1)
     _ _ _ _ _ _ (c .before .before .before .before .before .before .before .bytes-required .ensures) (c .before .before .before .before .before .before .wide-len .ensures)
-    (c .before .before .before .before .put-zeros .ensures .0) (c .before .before .before .before .put-zeros .ensures .1) (c .put-part .ensures .0) (c .put-part .ensures .1)
+    (c .before .before .before .before .put-same .ensures .0) (c .before .before .before .before .put-same .ensures .1) (c .put-part .ensures .0) (c .put-part .ensures .1)
 
 bytes-required-requires : tie.Need-bytes-required-requires
 bytes-required-requires c κs = search needs
@@ -33,14 +33,14 @@ bytes-required-requires c κs = search needs
 wide-len-requires : tie.Need-wide-len-requires
 wide-len-requires c κs = search needs
 
-sub-put-zeros : tie.Need-sub-put-zeros
-sub-put-zeros c =
+sub-put-same : tie.Need-sub-put-same
+sub-put-same c =
     let p = c .before .before .before .before .before in
     let a = p .args in
     omega (arith, own-fewer (a .width) (classNumber (a .class)) (classNumber (a .states)) (a .next) (a .stream .now) (p .pre .0 .0) (p .pre .0 .1) (number-small (a .class)) (p .pre .0 .2))
 
-put-zeros-requires : tie.Need-put-zeros-requires
-put-zeros-requires c κs = search needs
+put-same-requires : tie.Need-put-same-requires
+put-same-requires c κs = search needs
 
 sub-put-part : tie.Need-sub-put-part
 sub-put-part c = search needs
@@ -52,7 +52,7 @@ put-part-requires c κs =
     part-room (a .width) (classNumber (a .class)) (classNumber (a .states)) (a .next) (a .stream .now) (p .pre .0 .0) (p .pre .0 .1) (number-small (a .class)) (p .pre .0 .2)
     (a .out .now) (a .at) (p .pre .1)
     _ _ _ _ (c .before .before .before .before .before .before .bytes-required .ensures) (c .before .before .before .before .before .wide-len .ensures)
-    (c .before .before .before .put-zeros .ensures .0) (c .before .before .before .put-zeros .ensures .1)
+    (c .before .before .before .put-same .ensures .0) (c .before .before .before .put-same .ensures .1)
 
 carry-class-requires : tie.Need-carry-class-requires
 carry-class-requires c κs =
@@ -79,8 +79,8 @@ put-wide-spec =
     (tie.spec
     bytes-required-requires
     wide-len-requires
-    sub-put-zeros
-    put-zeros-requires
+    sub-put-same
+    put-same-requires
     sub-put-part
     put-part-requires
     carry-class-requires
