@@ -40,20 +40,25 @@ def pack(symbols, klass):
     return number.to_bytes(length(len(symbols), klass), "big")
 
 
-def vcd_symbols(width, value):
+def vcd_text(width, value):
+    """What stands for symbols."""
     if width == 1:
         last = value[-1:]
-        value = b"0" if last in (b"", b"b") else last
-    else:
-        if value[:1] in (b"b", b"B"):
-            value = value[1:]
-        if len(value) > 2 and value[:2] == b"0b":
-            value = value[2:]
+        return b"0" if last in (b"", b"b") else last
+    if value[:1] in (b"b", b"B"):
+        value = value[1:]
+    if len(value) > 2 and value[:2] == b"0b":
+        value = value[2:]
+    return value
+
+
+def vcd_symbols(width, value):
+    value = vcd_text(width, value)
     if not value or len(value) > width or any(byte not in SYMBOL for byte in value):
         raise Bad
     symbols = [SYMBOL[byte] for byte in value]
     if len(symbols) < width:
-        if symbols[0] > 3:
+        if symbols[0] in (4, 7):  # h and l; document 02: u, w and - extend
             raise Bad
         fill = symbols[0] if symbols[0] >= 2 else 0
         symbols = [fill] * (width - len(symbols)) + symbols

@@ -3,12 +3,16 @@
 """Writes questions for `oracle values`, one a line.
 
   questions.py               the stored list, always the same
+  questions.py extended      what was left out of it: short vectors that u, w or - extends, by document 02,
+                             at which the Rust panics; model.py answers them
   questions.py SEED COUNT    COUNT random questions in which all kinds mix and
-                             some vectors are wide, for longer comparisons
+                             some vectors are wide, for longer comparisons; those that the Rust panics at left out
 """
 import itertools
 import random
 import sys
+
+from model import Bad, vcd_symbols, vcd_text
 
 SEED = 20011
 SYMBOLS = b"01xzhuwl-"
@@ -37,10 +41,19 @@ def raw_length(width, claim):
     return -(-width * (BITS + (4,))[claim] // 8)
 
 
+def extended(width, value):
+    """Whether u, w or - extends a value: it is good, and shorter than its vector."""
+    try:
+        return len(vcd_text(width, value)) < width and vcd_symbols(width, value)[0] in (5, 6, 8)
+    except Bad:
+        return False
+
+
 class Questions:
     def __init__(self, seed):
         self.random = random.Random(seed)
         self.lines = []
+        self.extended = []
         self.seen = set()
         self.turn = 0
 
@@ -49,22 +62,23 @@ class Questions:
         self.turn += 1
         return DELTAS[self.turn % len(DELTAS)]
 
-    def add(self, line):
+    def add(self, line, lines):
         if line not in self.seen:
             self.seen.add(line)
-            self.lines.append(line)
+            lines.append(line)
 
     def vcd(self, width, value, delta=None):
         delta = self.delta() if delta is None else delta
-        self.add(f"v {width} {delta} {bytes(value).hex()}")
+        lines = self.extended if extended(width, bytes(value)) else self.lines
+        self.add(f"v {width} {delta} {bytes(value).hex()}", lines)
 
     def raw(self, width, claim, value, delta=None):
         delta = self.delta() if delta is None else delta
-        self.add(f"r {width} {delta} {claim} {bytes(value).hex()}")
+        self.add(f"r {width} {delta} {claim} {bytes(value).hex()}", self.lines)
 
     def real(self, bits, delta=None):
         delta = self.delta() if delta is None else delta
-        self.add(f"f {delta} {bits:016x}")
+        self.add(f"f {delta} {bits:016x}", self.lines)
 
     # random parts
 
@@ -243,13 +257,14 @@ class Questions:
 
 
 def main():
-    if len(sys.argv) == 1:
+    if sys.argv[1:] in ([], ["extended"]):
         questions = Questions(SEED)
         questions.stored()
     else:
         questions = Questions(int(sys.argv[1]))
         questions.mixed(int(sys.argv[2]))
-    sys.stdout.write("".join(line + "\n" for line in questions.lines))
+    lines = questions.extended if sys.argv[1:] == ["extended"] else questions.lines
+    sys.stdout.write("".join(line + "\n" for line in lines))
 
 
 if __name__ == "__main__":

@@ -167,7 +167,7 @@ class Recording:
         return (self.random.choice(("", "b", "b", "B", "b0b", "0b")) + letters).encode()
 
     def shorter(self, letters):
-        """The same symbols with fewer letters, where left extension gives them back."""
+        """The same symbols with fewer letters, where left extension gives them back; by u, w and - it does too, but the Rust panics there."""
         first = letters[0].lower()
         if first not in "0xz":
             return letters

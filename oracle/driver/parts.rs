@@ -1,4 +1,4 @@
-//! Where the Rust parts from document 01, and at joins from document 02, each place by its smallest input. docs/DIFFERENCES.md has the tables;
+//! Where the Rust parts from document 01, and at a value and at joins from document 02, each place by its smallest input. docs/DIFFERENCES.md has the tables;
 //! `selftest` runs them.
 
 use super::*;
@@ -74,6 +74,9 @@ fn calls() {
     expect("VCD on a real, not decimal", real, vcd("1"), (true, "", 0));
     expect("width 2, q", pair, vcd("q"), (true, "", 0));
     expect("width 2, empty", pair, vcd(""), (true, "", 0));
+    for text in ["u", "W", "-", "b-", "0bw"] {
+        expect(text, pair, vcd(text), (true, "", 0));
+    }
     expect("an event of two bytes", EVENT, vcd("11"), (true, "", 0));
     expect("raw, no byte", bit, raw(States::Two, &[]), (true, "", 0));
     expect("raw symbol 9", bit, raw(States::Nine, &[9]), (true, "", 2));

@@ -246,6 +246,44 @@ fn no_width_is_taken_for_another_kind() {
     }
 }
 
+/// The symbols that the cursor shows of one value.
+fn symbols_of(width: u32, value: &[u8]) -> Vec<u8> {
+    let (answer, symbols) = at(&of_times(width, &[(0, value)]), 0, 0, width as usize);
+    assert_eq!(answer, found(0, 0, Value::Vector(States::Nine)));
+    symbols
+}
+
+#[test]
+fn short_vectors_extend() {
+    assert_eq!(symbols_of(2, b"u"), [5, 5]);
+    assert_eq!(symbols_of(2, b"U"), [5, 5]);
+    assert_eq!(symbols_of(3, b"w1"), [6, 6, 1]);
+    assert_eq!(symbols_of(4, b"-"), [8; 4]);
+    assert_eq!(symbols_of(3, b"b-x"), [8, 8, 2]);
+    assert_eq!(symbols_of(4, b"0bw"), [6; 4]);
+    let mut wide = [6; 17];
+    wide[16] = 2;
+    assert_eq!(symbols_of(17, b"BWx"), wide);
+}
+
+#[test]
+fn h_and_l_do_not_extend() {
+    let (mut records, mut times, mut work, mut image) = ([Kind::Vector(3).record()], [0; 2], [0; 32], [0; 64]);
+    let mut recorder = Recorder::new(&mut records, &mut times, &mut work, &mut image);
+    assert_eq!(recorder.start(2), Ok(Answer::Started));
+    assert_eq!(recorder.time(5), Ok(Answer::Taken));
+    let state = recorder.state();
+    for value in [b"h".as_slice(), b"H", b"l", b"l1", b"bL", b"0bh"] {
+        assert_eq!(recorder.vcd(0, value), Err(Refusal(6)));
+        assert_eq!(recorder.state(), state);
+    }
+    assert_eq!(recorder.vcd(0, b"hl1"), Ok(Answer::Recorded));
+    assert_eq!(
+        (records, work[8..11].to_vec()),
+        ([Kind::Vector(3).record() + (2 << 32)], vec![2, 4, 0x71])
+    );
+}
+
 #[test]
 fn a_sum_keeps_every_byte() {
     assert_eq!(sum(&[]), 0);

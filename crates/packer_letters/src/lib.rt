@@ -1,6 +1,6 @@
 // The symbols of a vector given as VCD text: the one at a place, extended to the left, and the last bytes, whose symbols all stand in the text, by
-// a loop that has nothing to ask. Document 01, 'Symbol and value', after the end of wellen's vcd.rs; the left extension is IEEE 1364's. The
-// contracts cite specs/Vcd.antt of the crate vcd, and specs/Number.antt of packer.
+// a loop that has nothing to ask. Document 01, 'Symbol and value', after the end of wellen's vcd.rs; the left extension is IEEE 1364's, and
+// document 02's (h). The contracts cite specs/Vcd.antt of the crate vcd, and specs/Number.antt of packer.
 use numbers::wide;
 use packer::Notation;
 use packer::pushed;
@@ -40,8 +40,8 @@ fn letter_symbol(letter: u8, states: States) -> Bit
     }
 }
 
-// The symbol at a place, counted from the left, of a text that is extended to a width: by its first symbol 0 or 1 with 0, by x or z
-// with itself.
+// The symbol at a place, counted from the left, of a text that is extended to a width: by its first symbol 0 or 1 with 0, by
+// any other that extends with itself.
 pub fn extended_symbol(text: &[u8], width: u32, place: u32) -> Bit
     requires { ⌜ (isSome (textSymbols width (now text)) ≡ true) × (place < width) ⌝ }
     ensures { λ r. ⌜ r .0 ≡ getD (orEmpty (textSymbols width (now (text .entry)))) place 0 ⌝ }

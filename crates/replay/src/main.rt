@@ -1,4 +1,5 @@
-// Replays questions that the Rust answered: standard input has one to a line, as in oracle/README.md, and `stdout` the Rust's answers.
+// Replays questions to single values: standard input has one to a line, as in oracle/README.md, and `stdout` the Rust's answers, of values that u, w or -
+// extends, at which the Rust panics, those of oracle/model.py.
 mod answer;
 mod question;
 

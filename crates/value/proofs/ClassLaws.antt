@@ -74,14 +74,6 @@ symbol-class s h = rw (le-leb s 8 h) refl
 no-symbol-class : (s : ℕ) → 8 < s → symbolClass s ≡ 3
 no-symbol-class s h = rw (lt-leb s 8 h) refl
 
--- below Nine are the symbols 0 1 x z
-pub below-nine : (s : ℕ) → ltb s 4 ≡ ltb (symbolClass s) 2
-below-nine s = by (leb s 8) refl
-  where
-    by : (t : Bool) → leb s 8 ≡ t → ltb s 4 ≡ ltb (symbolClass s) 2
-    by true e = rw (symbol-class s (leb-true s 8 e)) (by-class (λ (c : ℕ). ltb s 4 ≡ ltb c 2) s (λ a. lt-ltb s 4 (omega arith)) (λ a b. lt-ltb s 4 b) (λ a. le-ltb s 4 a))
-    by false e = let h : 8 < s = leb-false s 8 e in rw (no-symbol-class s h) (le-ltb s 4 (omega arith))
-
 -- by the tests that the code makes, the last one first
 pub class-tests : (s : ℕ) → pick (leb 9 s) 3 (pick (leb 4 s) 2 (pick (leb 2 s) 1 0)) ≡ symbolClass s
 class-tests s = last (leb 9 s) refl

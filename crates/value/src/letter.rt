@@ -1,4 +1,4 @@
-// The class of a letter's symbol.
+// Small letters, and the class of a letter's symbol.
 use crate::states::symbol_class;
 ghost use mathlib.Core.Path.{_≡_};
 ghost use lib.Dec.{eqb};
@@ -7,7 +7,7 @@ ghost use Rattle.value.specs.Symbol.{symbolOf, lowered, orNumber};
 ghost use Rattle.value.specs.Class.{symbolClass};
 
 // A capital letter's small one; any other byte is itself.
-fn small_letter(value: u8) -> u8
+pub fn small_letter(value: u8) -> u8
     ensures { λ r. ⌜ r ≡ lowered value ⌝ }
 {
     if value < b'A' {

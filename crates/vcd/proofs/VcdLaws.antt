@@ -23,7 +23,7 @@ use Rattle.value.specs.declared.change.BitVecChange.the-variants.{SingleBit, Mu
 use Rattle.value.proofs.SymbolLaws.{letter-symbol}
 use Rattle.lists.specs.Last.{lastOr}
 use Rattle.lists.proofs.LastLaws.{last-of}
-use Rattle.vcd.specs.Vcd.{symbolsIn, vcdBit, withoutB, without0b, textOf, extended, textSymbols, vcdSymbols, asciiStates}
+use Rattle.vcd.specs.Vcd.{symbolsIn, vcdBit, withoutB, without0b, textOf, extends, extended, textSymbols, vcdSymbols, asciiStates}
 use Rattle.vcd.proofs.SymbolsLaws.{Symbols, symbols-more, symbols-is, symbols-of, symbols-number}
 use Rattle.vcd.proofs.ExtendedLaws.{Extended, extended-is, extended-some}
 
@@ -119,6 +119,13 @@ text-bad w u h k e = text-fits w u h k ∙ by (symbolsIn u) e
     by none f = refl
     by (some s) f = cc
 
+pub first-symbol : (u : List ℕ) {k : States} → 0 < length u → asciiStates (symbolsIn u) ≡ Some k → isSome (symbolOf (getD u 0 0)) ≡ true
+first-symbol u {k} h = by (symbolsIn u) refl
+  where
+    by : (o : Option (List ℕ)) → symbolsIn u ≡ o → asciiStates o ≡ Some k → isSome (symbolOf (getD u 0 0)) ≡ true
+    by none e f = cc
+    by (some s) e f = ap isSome (symbols-of u e .at 0 h)
+
 abbrev InClass : States → List ℕ → Type 0
 InClass k s = statesOf (classOfAll s) ≡ k
 
@@ -130,7 +137,7 @@ change-wide (suc (suc w)) h k (some s) e = ap MultiBit e
 
 -- where every byte has a symbol and the text fits: whole, or begun by a symbol that extends
 pub text-change : (w : ℕ) (u : List ℕ) {k : States} → 1 < w → 0 < length u → length u ≤ w → asciiStates (symbolsIn u) ≡ Some k
-    → changeOf w (textSymbols w u) ≡ pick (eqb (length u) w || ltb (orNumber 255 (symbolOf (getD u 0 0))) 4) (MultiBit k) Bad
+    → changeOf w (textSymbols w u) ≡ pick (eqb (length u) w || extends (orNumber 255 (symbolOf (getD u 0 0)))) (MultiBit k) Bad
 text-change w u {k} one h l e =
     change-wide w one k (textSymbols w u) class
     ∙ ap (λ (t : Bool). pick t (MultiBit k) Bad) (ap isSome (text-fits w u h l) ∙ good (symbolsIn u) refl e)
@@ -139,7 +146,7 @@ text-change w u {k} one h l e =
     class = where-map (Text w u) (InClass k) (textSymbols w u) (λ s x. let f = x .class in cc) (text-is w u)
 
     good : (o : Option (List ℕ)) → symbolsIn u ≡ o → asciiStates o ≡ Some k
-        → isSome (bind o (extended w)) ≡ eqb (length u) w || ltb (orNumber 255 (symbolOf (getD u 0 0))) 4
+        → isSome (bind o (extended w)) ≡ eqb (length u) w || extends (orNumber 255 (symbolOf (getD u 0 0)))
     good none f g = cc
     good (some s) f g = let y = symbols-of u f in rw (symbols-number y 0 h, ← (y .size)) (extended-some w s)
 

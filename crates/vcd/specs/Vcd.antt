@@ -1,4 +1,4 @@
--- Document 01, 'Symbol and value': what a VCD value says of a vector of a width (`decode_vcd_bit_vec_change`). `none` is "bad".
+-- Document 01, 'Symbol and value', and document 02, (h): what a VCD value says of a vector of a width (`decode_vcd_bit_vec_change`). `none` is "bad".
 -- Assumes nothing.
 use Prim.Native.Nat.{ℕ, zero, suc, _-_}
 use mathlib.Core.Bool.{Bool, true, _&&_, _||_}
@@ -34,9 +34,13 @@ without0b v = pick (ltb 2 (length v) && (eqb (getD v 0 0) 48 && eqb (getD v 1 0)
 unfoldable pub textOf : List ℕ → List ℕ
 textOf v = without0b (withoutB v)
 
--- left extension (IEEE 1364), by the first symbol: 0 and 1 extend with 0, x and z (2, 3) with themselves, any other is bad
+-- the symbols that a short value may begin with: 0 1 x z (IEEE 1364), and u w - (5, 6, 8), but not h and l (4, 7)
+abbrev pub extends : ℕ → Bool
+extends s = ltb s 4 || (eqb s 5 || (eqb s 6 || eqb s 8))
+
+-- left extension, by the first symbol: 0 and 1 extend with 0, the others of these with themselves; any other is bad
 abbrev pub fillOf : ℕ → Option ℕ
-fillOf s = pick (ltb s 2) (some 0) (pick (ltb s 4) (some s) none)
+fillOf s = pick (ltb s 2) (some 0) (pick (extends s) (some s) none)
 
 -- symbols of at most w, extended to w
 unfoldable pub extended : ℕ → List ℕ → Option (List ℕ)

@@ -1,8 +1,9 @@
-// What a VCD value says to a vector. Document 01, 'Symbol and value', after the end of wellen's vcd.rs.
+// What a VCD value says to a vector. Document 01, 'Symbol and value', after the end of wellen's vcd.rs; u, w and - extend by document 02, (h).
 //
 // The contracts cite specs/Vcd.antt of the crate vcd. `decode_vcd_bit_vec_change` has no `requires`: a bad value is an answer.
 use value::change::BitVecChange;
 use value::letter::letter_class;
+use value::letter::small_letter;
 use value::states::MaybeStates;
 use value::states::States;
 use value::states::larger;
@@ -13,9 +14,12 @@ use value::symbol::bit_char_to_num;
 use value::symbol::is_digit;
 use vcd_text::vcd_text;
 ghost use mathlib.Core.Path.{_≡_};
+ghost use mathlib.Core.Bool.{true};
 ghost use Prim.Native.Nat.{_<_};
+ghost use Rattle.lists.specs.Choice.{isSome};
 ghost use Rattle.value.specs.Change.{changeOf};
-ghost use Rattle.vcd.specs.Vcd.{textSymbols, vcdBit, vcdSymbols, symbolsIn, asciiStates, allDigits};
+ghost use Rattle.value.specs.Symbol.{symbolOf, orNumber};
+ghost use Rattle.vcd.specs.Vcd.{extends, textSymbols, vcdBit, vcdSymbols, symbolsIn, asciiStates, allDigits};
 
 // Whether a text has the letters 0 and 1 alone. The loop has no exit on its way, so that the compiler looks at many letters in a turn.
 fn is_binary(text: &[u8]) -> bool
@@ -67,6 +71,17 @@ fn decode_vcd_bit(value: &[u8]) -> BitVecChange
     }
 }
 
+// Whether a symbol's letter extends a short text to the left: 0 1 x z (IEEE 1364) and u w - do; h and l do not.
+fn extends_left(letter: u8) -> bool
+    requires { ⌜ isSome (symbolOf letter) ≡ true ⌝ }
+    ensures { λ r. ⌜ r ≡ extends (orNumber 255 (symbolOf letter)) ⌝ }
+{
+    match small_letter(letter) {
+        b'h' | b'l' => false,
+        _ => true,
+    }
+}
+
 // A text of a wider vector.
 fn decode_vcd_text(width: u32, text: &[u8]) -> BitVecChange
     requires { ⌜ 1 < width ⌝ }
@@ -84,8 +99,7 @@ fn decode_vcd_text(width: u32, text: &[u8]) -> BitVecChange
             if text.len() == width as usize {
                 return BitVecChange::MultiBit(states);
             }
-            // below Nine: 0 1 x z extend
-            if letter_class(text[0]) < 2 {
+            if extends_left(text[0]) {
                 return BitVecChange::MultiBit(states);
             }
             BitVecChange::Bad

@@ -136,12 +136,22 @@ fn raw(width: u32, claim: u32, value: &[u8]) {
 fn vcd_values() {
     vcd(1, b"B");
     vcd(2, b"0b");
-    vcd(2, b"h");
     vcd(2, b"b");
     vcd(2, b"101");
     vcd(0, b"");
     vcd(0, b"x");
     vcd(0, b"xx");
+}
+
+// Short values: u, w and - extend, h and l do not.
+fn vcd_extended() {
+    vcd(2, b"u");
+    vcd(2, b"U");
+    vcd(3, b"w1");
+    vcd(4, b"-");
+    vcd(4, b"0bw");
+    vcd(2, b"h");
+    vcd(3, b"l1");
 }
 
 // A byte short, no such class, a symbol 9, and a width whose bits do not fit 32 bits.
@@ -159,5 +169,6 @@ fn main() {
     little_endian_32(0x12345678);
     little_endian_64(0x0123456789abcdef);
     vcd_values();
+    vcd_extended();
     raw_values();
 }

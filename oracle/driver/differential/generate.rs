@@ -217,7 +217,7 @@ impl<'a> Generator<'a> {
         [self.random.of(front), &letters[..]].concat()
     }
 
-    /// The same symbols with fewer letters, where left extension gives them back.
+    /// The same symbols with fewer letters, where left extension gives them back; by u, w and - it does too, but the Rust panics there.
     fn shorter(&mut self, letters: &[u8]) -> Vec<u8> {
         let first = letters[0];
         if !b"0xz".contains(&first) {

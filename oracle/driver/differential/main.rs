@@ -162,8 +162,10 @@ impl Run {
         values::exhaustive(size.whole, &mut |kind, index, value| self.value(kind, index, value))?;
         self.passed(format!("single values, exhaustively: {}", self.values.asked()));
         self.items("values", size.values)?;
-        let (asked, bad) = (self.values.asked(), self.values.bad);
-        self.passed(format!("single values: {asked} ({bad} bad)"));
+        let (asked, bad, left_out) = (self.values.asked(), self.values.bad, self.values.left_out);
+        self.passed(format!(
+            "single values: {asked} ({bad} bad, {left_out} without the Rust: u, w or - extends them)"
+        ));
         self.items("recordings", size.recordings)?;
         self.passed(self.recorded());
         self.items("mixed", size.mixed)?;

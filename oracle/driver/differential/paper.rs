@@ -2,7 +2,7 @@
 //! lent memory it says the answer and what all memory holds afterwards.
 
 use crate::memory::{Answer, Memory, State};
-use crate::value::{Content, change_bytes, raw_symbols, vcd_symbols};
+use crate::value::{Content, change_bytes, raw_symbols, vcd_symbols, vcd_text};
 use wellen::oracle::whole::{ABSENT, REAL, Step, Value};
 
 pub const IMAGE_LIMIT: u64 = 1_073_741_824;
@@ -264,6 +264,16 @@ pub fn decode(kind: u32, value: &Value) -> Result<Option<(Content, u32)>, Turned
     let content = Content::Symbols(symbols.unwrap_or_default());
     let class = content.class().max(claim);
     Ok(Some((content, class)))
+}
+
+/// Whether u, w or - extends a vector's value. "The Rust panics here, so oracle runs leave such values out."
+pub fn extended(kind: u32, value: &Value) -> bool {
+    match (value, decode(kind, value)) {
+        (Value::Vcd(text), Ok(Some((Content::Symbols(symbols), _)))) => {
+            vcd_text(text).len() < symbols.len() && matches!(symbols[0], 5 | 6 | 8)
+        }
+        _ => false,
+    }
 }
 
 fn change(m: &mut Memory, signal: u32, value: &Value) -> Said {

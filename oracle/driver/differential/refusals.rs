@@ -5,7 +5,7 @@ use crate::compare::{Compared, Tally, agree, none, on_memory};
 use crate::generate::{Generator, kinds, small_kind};
 use crate::memory::{Answer, BYTE, Memory, Record, Recording, TIME, step_line};
 use crate::ours;
-use crate::paper::{self, CONDITIONS};
+use crate::paper::{self, CONDITIONS, extended};
 use crate::random::Random;
 use std::collections::BTreeMap;
 use wellen::oracle::whole::{ABSENT, REAL, Step};
@@ -272,6 +272,20 @@ pub fn signals(tally: &mut Refusals) -> Compared {
     Ok(())
 }
 
+/// A change that may be refused, but none that the Rust is not given.
+fn asked_change(generator: &mut Generator) -> Step {
+    loop {
+        let step = generator.any_change();
+        let Step::Change(signal, value) = &step else {
+            return step;
+        };
+        let kind = generator.kinds.get(*signal as usize);
+        if !kind.is_some_and(|kind| extended(*kind, value)) {
+            return step;
+        }
+    }
+}
+
 /// A recording with refused calls in it, in buffers that are often too small: a refused call spoils only itself, and the Rust, given the
 /// calls that were not refused, leaves the same image.
 pub fn mixed(random: &mut Random, tally: &mut Tally) -> Compared {
@@ -284,7 +298,7 @@ pub fn mixed(random: &mut Random, tally: &mut Tally) -> Compared {
         if generator.random.chance(35) {
             generator.time(false)
         } else {
-            generator.any_change()
+            asked_change(generator)
         }
     };
     let mut steps: Vec<Step> = (0..calls).map(|_| call(&mut generator)).collect();

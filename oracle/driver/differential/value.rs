@@ -1,4 +1,4 @@
-//! Document 01, 'Symbol and value' and the bytes of one change and one entry, read a second time.
+//! Document 01, 'Symbol and value' with document 02's left extension, and the bytes of one change and one entry, read a second time.
 
 pub const LETTERS: &[u8; 9] = b"01xzhuwl-";
 const BITS: [u32; 3] = [1, 2, 4];
@@ -47,6 +47,18 @@ pub fn unpacked(bytes: &[u8], width: u32, class: u32) -> Vec<u8> {
     (0..width as usize).rev().map(at).collect()
 }
 
+/// "one leading `b` or `B` is dropped; then, if over two bytes remain, a leading `0b` is dropped".
+pub fn vcd_text(value: &[u8]) -> &[u8] {
+    let value = match value {
+        [b'b' | b'B', rest @ ..] => rest,
+        whole => whole,
+    };
+    match value {
+        [b'0', b'b', rest @ ..] if !rest.is_empty() => rest,
+        whole => whole,
+    }
+}
+
 /// The symbols of a VCD value, or nothing if it is bad.
 pub fn vcd_symbols(width: u32, value: &[u8]) -> Option<Vec<u8>> {
     if width == 1 {
@@ -56,25 +68,17 @@ pub fn vcd_symbols(width: u32, value: &[u8]) -> Option<Vec<u8>> {
             Some(last) => symbol(*last).map(|symbol| vec![symbol]),
         };
     }
-    // "one leading `b` or `B` is dropped; then, if over two bytes remain, a leading `0b` is dropped"
-    let value = match value {
-        [b'b' | b'B', rest @ ..] => rest,
-        whole => whole,
-    };
-    let value = match value {
-        [b'0', b'b', rest @ ..] if !rest.is_empty() => rest,
-        whole => whole,
-    };
+    let value = vcd_text(value);
     if value.is_empty() || value.len() > width as usize {
         return None;
     }
     let symbols: Vec<u8> = value.iter().map(|byte| symbol(*byte)).collect::<Option<_>>()?;
     let missing = width as usize - symbols.len();
-    // "first symbol 0 or 1 extends with 0, x or z with itself; any other first symbol is bad"
+    // "first symbol 0 or 1 extends with 0, x or z with itself"; of u, w and -: "a short vector beginning with one of these now extends with it;
+    // h and l still make a bad value"
     let fill = match symbols[0] {
         0 | 1 => 0,
-        2 => 2,
-        3 => 3,
+        first @ (2 | 3 | 5 | 6 | 8) => first,
         _ if missing == 0 => 0,
         _ => return None,
     };

@@ -1,30 +1,33 @@
 -- A text is bad or in the class of its symbols, by the tests on its length and its first symbol; the extension leaves the class.
 use mathlib.Core.Path.{_≡_, refl, ap, sym, _∙_}
 use mathlib.Core.Bool.{_||_}
-use borrow.Author.Tests.{eq-eqb, ne-eqb, lt-ltb, le-ltb}
+use borrow.Author.Tests.{eq-eqb, ne-eqb}
 use borrow.Author.Needs.{needs}
-use lib.Dec.{eqb, ltb}
+use lib.Dec.{eqb}
 use lib.ListN.{length, getD}
 use Rattle.lists.specs.Choice.{pick}
 use Rattle.value.specs.Symbol.{symbolOf, orNumber}
 use Rattle.value.specs.Change.{changeOf}
 use Rattle.value.specs.declared.change.BitVecChange.the-variants.{MultiBit, Bad}
-use Rattle.value.proofs.ClassLaws.{below-nine}
-use Rattle.vcd.specs.Vcd.{textSymbols}
-use Rattle.vcd.proofs.VcdLaws.{text-empty, text-long, text-bad, text-change}
+use Rattle.value.specs.declared.states.MaybeStates.the-variants.{Some}
+use Rattle.vcd.specs.Vcd.{extends, symbolsIn, textSymbols, asciiStates}
+use Rattle.vcd.proofs.VcdLaws.{text-empty, text-long, text-bad, first-symbol, text-change}
 use Rattle.vcd_decode.proofs.decode_vcd_text.Statement.{statement}
 use Rattle.vcd_decode.proofs.decode_vcd_text.Tie as tie
 
--- the answer where every byte has a symbol
+-- every byte has a symbol
+class : (c : tie.After-known-told) → asciiStates (symbolsIn (c .before .before .before .before .before .before .before .args .text .now)) ≡ Some (c .before .states .given .0 .0)
+class c = sym (c .before .before .before .states-from-ascii .ensures) ∙ c .before .states .given .1
+
+-- the answer there
 change : (c : tie.After-known-told) → let a = c .before .before .before .before .before .before .before .args in
     changeOf (a .width) (textSymbols (a .width) (a .text .now))
-    ≡ pick (eqb (length (a .text .now)) (a .width) || ltb (orNumber 255 (symbolOf (getD (a .text .now) 0 0))) 4)
+    ≡ pick (eqb (length (a .text .now)) (a .width) || extends (orNumber 255 (symbolOf (getD (a .text .now) 0 0))))
     (MultiBit (c .before .states .given .0 .0))
     Bad
 change c =
     let a = c .before .before .before .before .before .before .before .args in
-    let class = sym (c .before .before .before .states-from-ascii .ensures) ∙ c .before .states .given .1 in
-    text-change (a .width) (a .text .now) (search needs) (search needs) (search needs) class
+    text-change (a .width) (a .text .now) (search needs) (search needs) (search needs) (class c)
 
 returns : tie.Need-returns
 returns c = sym (ap (changeOf _) (text-empty _ (c .before .before .args .text .now) (search needs)))
@@ -46,17 +49,20 @@ enum-known-states c = search needs
 returns-3 : tie.Need-returns-3
 returns-3 c = sym (change (c .before) ∙ rw (eq-eqb _ _ (c .if3 .taken)) refl)
 
-shared-slice-read-letter-class : tie.Need-shared-slice-read-letter-class
-shared-slice-read-letter-class c = search needs
+shared-slice-read-extends-left : tie.Need-shared-slice-read-extends-left
+shared-slice-read-extends-left c = search needs
 
-letter-class-requires : tie.Need-letter-class-requires
-letter-class-requires c κs = search needs
+extends-left-requires : tie.Need-extends-left-requires
+extends-left-requires c κs = first-symbol _ (search needs) (class (c .before .before))
+
+-- a short text, by whether its first symbol extends
+short : (c : tie.After-extends-left) → let a = c .before .before .before .before .before .before .before .before .before .before .args in
+    changeOf (a .width) (textSymbols (a .width) (a .text .now))
+    ≡ pick (c .extends-left .result) (MultiBit (c .before .before .before .before .states .given .0 .0)) Bad
+short c = change (c .before .before .before) ∙ rw (ne-eqb _ _ (c .before .before .if3 .left), ← (c .extends-left .ensures)) refl
 
 returns-4 : tie.Need-returns-4
-returns-4 c =
-    let first = c .before .letter-class in
-    let short = ne-eqb _ _ (c .before .before .before .if3 .left) in
-    sym (change (c .before .before .before .before) ∙ rw (short, below-nine, ← (first .ensures), lt-ltb (first .result) 2 (search needs)) refl)
+returns-4 c = sym (short (c .before) ∙ rw (c .if4 .taken) refl)
 
 returns-5 : tie.Need-returns-5
 returns-5 c =
@@ -64,10 +70,7 @@ returns-5 c =
     sym (ap (changeOf _) (text-bad _ _ (search needs) (search needs) bad))
 
 returns-6 : tie.Need-returns-6
-returns-6 c =
-    let first = c .before .letter-class in
-    let short = ne-eqb _ _ (c .before .before .before .if3 .left) in
-    sym (change (c .before .before .before .before) ∙ rw (short, below-nine, ← (first .ensures), le-ltb (first .result) 2 (search needs)) refl)
+returns-6 c = sym (short (c .before) ∙ rw (c .if4 .left) refl)
 
 pub decode-vcd-text-spec : {M : Type 1} → statement M
 decode-vcd-text-spec =
@@ -79,8 +82,8 @@ decode-vcd-text-spec =
     enum-told
     enum-known-states
     returns-3
-    shared-slice-read-letter-class
-    letter-class-requires
+    shared-slice-read-extends-left
+    extends-left-requires
     returns-4
     returns-5
     returns-6)
