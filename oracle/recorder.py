@@ -1,5 +1,5 @@
 #!/usr/bin/env python3
-"""The recorder of document 01, from the written rules alone.
+"""The recorder of document 01, with document 02's left extension, from the written rules alone.
 
   recorder.py          answers the calls on standard input
   recorder.py sheet    repeats them, each answer below its call as a comment `#= ANSWER`

@@ -1,5 +1,5 @@
-// Replays questions to single values: standard input has one to a line, as in oracle/README.md, and `stdout` the Rust's answers, of values that u, w or -
-// extends, at which the Rust panics, those of oracle/model.py.
+// Replays questions of single values: standard input has one to a line, as in oracle/README.md, and `stdout` the answers: the Rust's, or, where u, w or -
+// extends a value, at which the Rust panics, those of oracle/model.py.
 mod answer;
 mod question;
 

@@ -35,7 +35,7 @@ pub fn none(what: &str, difference: Option<String>) -> Compared {
     difference.map_or(Ok(()), |found| Err(format!("{what}: {found}")))
 }
 
-/// How much of the work and of the image buffer the calls take.
+/// How much of the work and of the image buffer the calls take; nothing where one is refused, or is looked at and left out of what the Rust is given.
 fn needs(r: &Recording) -> Option<(usize, usize)> {
     let widest = r.kinds.iter().filter(|kind| **kind <= paper::WIDTH_LIMIT).max();
     let change = 32 + *widest.unwrap_or(&0) as usize / 2;
@@ -45,6 +45,9 @@ fn needs(r: &Recording) -> Option<(usize, usize)> {
     paper::start(&mut m, r.limit.into(), r.kinds.len() as u32).ok()?;
     let mut most = 0;
     for step in &r.steps {
+        if !m.state.skip && paper::left_out(&r.kinds, step) {
+            return None;
+        }
         paper::step(&mut m, step).ok()?;
         most = most.max(m.state.work as usize);
     }
@@ -328,7 +331,7 @@ pub fn on_memory(
 
 /// A recording without a refusal. What is lent is often exactly what is needed. Answers the image.
 pub fn recording(r: &Recording, every: usize, random: &mut Random, tally: &mut Tally) -> Result<Vec<u8>, String> {
-    let (work, image) = needs(r).ok_or("document 01 refuses a call")?;
+    let (work, image) = needs(r).ok_or("a call is refused, or left out of what the Rust is given")?;
     let times = r.limit as usize + random.of(&[0, 0, 1, 3]);
     let (work, image) = (work + random.of(&[0, 0, 1, 9]), image + random.of(&[0, 0, 1, 9]));
     let m = Memory::fresh(&r.kinds, times, work, image);

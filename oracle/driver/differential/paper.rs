@@ -266,14 +266,25 @@ pub fn decode(kind: u32, value: &Value) -> Result<Option<(Content, u32)>, Turned
     Ok(Some((content, class)))
 }
 
-/// Whether u, w or - extends a vector's value. "The Rust panics here, so oracle runs leave such values out."
+/// Whether u, w or - extends a vector's value.
 pub fn extended(kind: u32, value: &Value) -> bool {
+    if kind > WIDTH_LIMIT {
+        return false;
+    }
     match (value, decode(kind, value)) {
         (Value::Vcd(text), Ok(Some((Content::Symbols(symbols), _)))) => {
             vcd_text(text).len() < symbols.len() && matches!(symbols[0], 5 | 6 | 8)
         }
         _ => false,
     }
+}
+
+/// Whether a call has such a value. "The Rust panics here, so oracle runs leave such values out."
+pub fn left_out(kinds: &[u32], step: &Step) -> bool {
+    let Step::Change(signal, value) = step else {
+        return false;
+    };
+    kinds.get(*signal as usize).is_some_and(|kind| extended(*kind, value))
 }
 
 fn change(m: &mut Memory, signal: u32, value: &Value) -> Said {

@@ -5,7 +5,7 @@ use crate::compare::{Compared, Tally, agree, none, on_memory};
 use crate::generate::{Generator, kinds, small_kind};
 use crate::memory::{Answer, BYTE, Memory, Record, Recording, TIME, step_line};
 use crate::ours;
-use crate::paper::{self, CONDITIONS, extended};
+use crate::paper::{self, CONDITIONS, left_out};
 use crate::random::Random;
 use std::collections::BTreeMap;
 use wellen::oracle::whole::{ABSENT, REAL, Step};
@@ -276,11 +276,7 @@ pub fn signals(tally: &mut Refusals) -> Compared {
 fn asked_change(generator: &mut Generator) -> Step {
     loop {
         let step = generator.any_change();
-        let Step::Change(signal, value) = &step else {
-            return step;
-        };
-        let kind = generator.kinds.get(*signal as usize);
-        if !kind.is_some_and(|kind| extended(*kind, value)) {
+        if !left_out(&generator.kinds, &step) {
             return step;
         }
     }
