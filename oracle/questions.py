@@ -2,9 +2,9 @@
 # Seed of the stored list: 20011.
 """Writes questions for `oracle values`, one a line.
 
-  questions.py               the stored list, always the same
-  questions.py extended      what was left out of it: short vectors that u, w or - extends, by document 02,
-                             at which the Rust panics; model.py answers them
+  questions.py               the stored list as the Rust is asked, always the same
+  questions.py extended      the rest of it: short vectors that u, w or - extends, by document 02, at which
+                             the Rust panics; model.py answers them
   questions.py SEED COUNT    COUNT random questions in which all kinds mix and
                              some vectors are wide, for longer comparisons; those that the Rust panics at left out
 """
