@@ -33,7 +33,7 @@ static void change(uint32_t signal, const char *text) {
 }
 
 static uint32_t record(void) {
-  keep("start", wejumo_start(rec.state, LIMIT, SIGNALS, rec.records, SIGNALS, rec.times, LIMIT, rec.image, IMAGE));
+  keep("start", wejumo_start(rec.state, LIMIT, SIGNALS, WEJUMO_EDITION_1, rec.records, SIGNALS, rec.times, LIMIT, rec.image, IMAGE));
   at(10);
   change(0, "1");
   change(1, "b1x");
@@ -44,7 +44,7 @@ static uint32_t record(void) {
 
 /* After a restart: it begins at the time that ended the first, with a value that signal 1 has already. */
 static uint32_t record_again(void) {
-  keep("start", wejumo_start(rec.state, LIMIT, SIGNALS, rec.records, SIGNALS, rec.times, LIMIT, rec.image, IMAGE));
+  keep("start", wejumo_start(rec.state, LIMIT, SIGNALS, WEJUMO_EDITION_1, rec.records, SIGNALS, rec.times, LIMIT, rec.image, IMAGE));
   at(20);
   change(1, "b0001");
   at(35);

@@ -16,7 +16,8 @@
  *
  * What the caller owns: all memory, always. The library allocates nothing, has no variables of its own and keeps no pointer after a call, so
  * calls on different buffers may run at the same time. Structs cross by value; there is no bool and no enum among them, and every pattern
- * of their bits has a meaning. The library needs `memset` and nothing else; it is for x86-64 Linux.
+ * of the bits of their fields has a meaning. Bytes of a struct that belong to no field are not looked at and may be any after a call, so states
+ * are compared field by field. The library needs `memset` and nothing else; it is for x86-64 Linux.
  *
  * Refusals: where `answer` is WEJUMO_REFUSED, `value` is the number of the refusal (below), all buffers and the state are as they were.
  */
@@ -44,6 +45,11 @@ extern "C" {
 #define WEJUMO_MIN_LIMIT UINT32_C(2)
 #define WEJUMO_MAX_LIMIT UINT32_C(65535)
 #define WEJUMO_MAX_IMAGE UINT32_C(1073741824)
+
+/* Editions of the skip rule, one of which is chosen at a start. A time below the last one starts a skip: the changes that follow are counted,
+ * not recorded, until it ends. The image tells nothing of the edition. */
+#define WEJUMO_EDITION_1 UINT32_C(1) /* only a time above the last one ends a skip */
+#define WEJUMO_EDITION_2 UINT32_C(2) /* a time equal to the last one ends it too; no time is added */
 
 /* A class: how many states a symbol can have. In an argument every number above 1 means WEJUMO_NINE, but for a claim. */
 #define WEJUMO_TWO UINT32_C(0)
@@ -96,11 +102,12 @@ typedef struct wejumo_state {
   uint32_t image;   /* used bytes of the image buffer */
   uint32_t blocks;
   uint32_t skip;    /* flag: changes are skipped since a time went back */
-  uint32_t skipped; /* how many changes were skipped; it stays at its top */
+  uint32_t skipped; /* how many changes were skipped since the start; it stays at its top */
+  uint32_t edition; /* of the skip rule */
 } wejumo_state;
 
 WEJUMO_ASSERT(sizeof(size_t) == 8);
-WEJUMO_ASSERT(sizeof(wejumo_state) == 40);
+WEJUMO_ASSERT(sizeof(wejumo_state) == 48);
 WEJUMO_ASSERT(offsetof(wejumo_state, closed) == 0);
 WEJUMO_ASSERT(offsetof(wejumo_state, limit) == 4);
 WEJUMO_ASSERT(offsetof(wejumo_state, signals) == 8);
@@ -110,6 +117,7 @@ WEJUMO_ASSERT(offsetof(wejumo_state, image) == 24);
 WEJUMO_ASSERT(offsetof(wejumo_state, blocks) == 28);
 WEJUMO_ASSERT(offsetof(wejumo_state, skip) == 32);
 WEJUMO_ASSERT(offsetof(wejumo_state, skipped) == 36);
+WEJUMO_ASSERT(offsetof(wejumo_state, edition) == 40);
 
 /* What a call of the recorder answers, and the state after it, which the caller hands to the next call. */
 typedef struct wejumo_outcome {
@@ -118,7 +126,7 @@ typedef struct wejumo_outcome {
   wejumo_state state;
 } wejumo_outcome;
 
-WEJUMO_ASSERT(sizeof(wejumo_outcome) == 48);
+WEJUMO_ASSERT(sizeof(wejumo_outcome) == 56);
 WEJUMO_ASSERT(offsetof(wejumo_outcome, answer) == 0);
 WEJUMO_ASSERT(offsetof(wejumo_outcome, value) == 4);
 WEJUMO_ASSERT(offsetof(wejumo_outcome, state) == 8);
@@ -129,15 +137,16 @@ WEJUMO_ASSERT(offsetof(wejumo_outcome, state) == 8);
  * start sets index and class to 0. `work` holds the changes of the block that is being recorded, 8 bytes and the stream bytes each;
  * `times` holds its times. The image is the first `value` bytes of the image buffer after a finish. The same buffers go into each call. */
 
-/* Starts a recording of `signals` signals with at most `limit` times a block. STARTED. Refused with 1: `limit` outside its range or above
- * times_length, `signals` over its top or not records_length, a kind that is a width over its top, an image buffer of fewer than
- * 16 + 4 * signals bytes or over its top. */
-wejumo_outcome wejumo_start(wejumo_state state, uint32_t limit, uint32_t signals,
+/* Starts a recording of `signals` signals with at most `limit` times a block, by an edition of the skip rule. STARTED. Refused with 1: `limit`
+ * outside its range or above times_length, `signals` over its top or not records_length, `edition` neither 1 nor 2, a kind that is a width over
+ * its top, an image buffer of fewer than 16 + 4 * signals bytes or over its top. */
+wejumo_outcome wejumo_start(wejumo_state state, uint32_t limit, uint32_t signals, uint32_t edition,
                             uint64_t *records, size_t records_length,
                             const uint64_t *times, size_t times_length,
                             uint8_t *image, size_t image_length);
 
-/* A time. TAKEN if it is the first or above the last, after a cut where the table is full; SAME; BACK starts a skip. Refused with 2, 10, 8. */
+/* A time. TAKEN if it is the first or above the last, after a cut where the table is full, and ends a skip; SAME ends one in edition 2 alone;
+ * BACK starts one. Refused with 2, 10, 8. */
 wejumo_outcome wejumo_time_change(wejumo_state state,
                                   uint64_t *records, size_t records_length,
                                   uint64_t *times, size_t times_length,

@@ -1,5 +1,6 @@
 #!/usr/bin/env python3
-"""The recorder of document 01, with document 02's left extension, from the written rules alone.
+"""The recorder of document 01, with document 02's left extension and its second edition of the
+skip rule, from the written rules alone.
 
   recorder.py          answers the calls on standard input
   recorder.py sheet    repeats them, each answer below its call as a comment `#= ANSWER`
@@ -19,10 +20,12 @@ leaves its space at the line's end. Lines that are empty or begin with # say not
 Answers: started, taken, same, back, recorded, skipped, refused K, and for a finish
 `finished TOTAL skipped COUNT` with a line `image HEX` after it.
 
-What is lent, and what another hand alters between two calls, is said by lines that
-have no answer. Buffers keep their content; the lent part begins at their front.
+What is lent, what is chosen for the starts that follow, and what another hand alters
+between two calls, is said by lines that have no answer. Buffers keep their content; the
+lent part begins at their front.
 
   lend TIMES WORK IMAGE           numbers of 64 bits, bytes, bytes
+  edition N                       of the skip rule, until the next such line; 1 at first
   set FIELD N                     a field of the state (`State` below; false is 0)
   record SIGNAL KIND INDEX TOP    the record of a signal
   poke BUFFER PLACE HEX           bytes of `work` or `image`
@@ -36,6 +39,7 @@ EVENT, REAL, ABSENT = 0, "real", "absent"  # else a kind is its width
 NUMBERS = {REAL: 0xFFFFFFFE, ABSENT: 0xFFFFFFFF}  # in an image; else the width
 IMAGE_LIMIT = 1_073_741_824
 COUNT_TOP = 2**32 - 1
+EDITIONS = 1, 2  # of the skip rule
 WHOLE = 65_535, 1 << 24, 1 << 24  # lent where no line says otherwise
 
 
@@ -74,6 +78,7 @@ class State:
     blocks: int = 0   # N
     skip: bool = False
     skipped: int = 0
+    edition: int = 0
 
 
 class Buffer:
@@ -149,6 +154,7 @@ class Recorder:
 
     def __init__(self):
         self.state = State(closed=True)
+        self.edition = 1  # for the starts that follow
         self.records = []
         self.times = Buffer([], WHOLE[0])
         self.work = Buffer(bytearray(), WHOLE[1])
@@ -160,14 +166,16 @@ class Recorder:
     # calls
 
     def start(self, signals, limit, kinds):
-        refuse(1, not 2 <= limit <= 65_535,
+        refuse(1, self.edition not in EDITIONS,
+               not 2 <= limit <= 65_535,
                self.times.length < limit,
                signals > 65_536,
                signals != len(kinds),
                any(map(too_wide, kinds)),
                self.image.length < 16 + 4 * signals,
                self.image.length > IMAGE_LIMIT)
-        self.state = State(limit=limit, signals=signals, image=16 + 4 * signals)
+        self.state = State(limit=limit, signals=signals, image=16 + 4 * signals,
+                           edition=self.edition)
         self.records = [Record(kind) for kind in kinds]
         self.image.write(0, head_bytes(limit, 0, self.state.image, kinds))
         return "started"
@@ -178,6 +186,8 @@ class Recorder:
         if state.held:
             last = self.last_time()
             if time == last:
+                if state.edition == 2:
+                    state.skip = False
                 return "same"
             if time < last:
                 state.skip = True
@@ -220,7 +230,8 @@ class Recorder:
     def require_sound(self):
         state = self.state
         refuse(2, state.closed)
-        refuse(10, not 2 <= state.limit <= 65_535,
+        refuse(10, state.edition not in EDITIONS,
+               not 2 <= state.limit <= 65_535,
                state.held > state.limit,
                self.times.length < state.limit,
                state.work > self.work.length,
@@ -286,6 +297,8 @@ def alter(recorder, words):
     name, *rest = words
     if name == "lend":
         recorder.lend(*map(int, rest))
+    elif name == "edition":
+        recorder.edition = int(rest[0])
     elif name == "set":
         old = getattr(recorder.state, rest[0])
         setattr(recorder.state, rest[0], type(old)(int(rest[1])))

@@ -100,7 +100,8 @@ static void record(int row) {
   names[0] = table[row].name;
   for (uint32_t s = 0; s < as->signals; s++) rec.records[s] = as->kinds[s];
   keep("start", WEJUMO_STARTED,
-       wejumo_start(rec.state, as->limit, as->signals, rec.records, as->signals, rec.times, TIMES, rec.image, IMAGE));
+       wejumo_start(rec.state, as->limit, as->signals, WEJUMO_EDITION_1, rec.records, as->signals, rec.times, TIMES, rec.image,
+                    IMAGE));
   for (size_t i = 0; values[i]; i++) {
     keep("time", WEJUMO_TAKEN, wejumo_time_change(rec.state, LENT, table[row].times[i]));
     for (uint32_t s = 0; s < as->signals; s++) change(s, as->kinds[s], values + i);

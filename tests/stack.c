@@ -15,7 +15,7 @@ enum { WORK = 4 << 20, IMAGE = 8 << 20, OUT = 4 << 20 };
 
 /* All arguments, and the last answers. */
 static wejumo_state state;
-static uint32_t limit = LIMIT, signal_number, claim, block, kind, class_number;
+static uint32_t limit = LIMIT, edition, signal_number, claim, block, kind, class_number;
 static uint64_t time_now, bits;
 static uint64_t records[SIGNALS], times[LIMIT], table[ALL_TIMES];
 static uint8_t work[WORK], first[IMAGE], second[IMAGE], image[IMAGE], bytes[OUT], symbols[SIGNALS], value[SIGNALS + 8];
@@ -43,7 +43,7 @@ static ucontext_t here, there;
 
 #define LENT records, signals, times, LIMIT, work, WORK, image, IMAGE
 
-CALL(wejumo_start, outcome = wejumo_start(state, limit, (uint32_t)signals, records, signals, times, LIMIT, image, IMAGE))
+CALL(wejumo_start, outcome = wejumo_start(state, limit, (uint32_t)signals, edition, records, signals, times, LIMIT, image, IMAGE))
 CALL(wejumo_time_change, outcome = wejumo_time_change(state, LENT, time_now))
 CALL(wejumo_vcd_value_change, outcome = wejumo_vcd_value_change(state, LENT, signal_number, value, value_length))
 CALL(wejumo_raw_value_change, outcome = wejumo_raw_value_change(state, LENT, signal_number, claim, value, value_length))
@@ -142,9 +142,10 @@ static void changes(uint64_t time) {
 
 /* S at its top, several blocks, changes of every kind at both ends of each, so that stream numbers have up to three bytes. The last signal but
  * one is absent. The image goes to `to`; its length is answered. */
-static size_t record(uint64_t from, uint8_t *to) {
+static size_t record(uint32_t by, uint64_t from, uint8_t *to) {
   static const uint32_t kinds[] = {WEJUMO_EVENT, 1, 7, 65536, WEJUMO_REAL};
   for (size_t i = 0; i < SIGNALS; i++) records[i] = i < 5 ? kinds[i] : i == SIGNALS - 2 ? WEJUMO_ABSENT : 8;
+  edition = by;
   RECORDER(wejumo_start, WEJUMO_STARTED);
   signal_number = 0;
   RECORDER(wejumo_real_change, WEJUMO_REFUSED);
@@ -158,6 +159,9 @@ static size_t record(uint64_t from, uint8_t *to) {
   time_now = from;
   RECORDER(wejumo_time_change, WEJUMO_BACK);
   change(3, "1", 1, WEJUMO_SKIPPED);
+  time_now = from + TIMES;
+  RECORDER(wejumo_time_change, WEJUMO_SAME);
+  change(3, "1", 1, edition == WEJUMO_EDITION_1 ? WEJUMO_SKIPPED : WEJUMO_RECORDED);
   RECORDER(wejumo_finish, WEJUMO_FINISHED);
   size_t total_bytes = outcome.value;
   RECORDER(wejumo_finish, WEJUMO_REFUSED);
@@ -165,10 +169,10 @@ static size_t record(uint64_t from, uint8_t *to) {
   return total_bytes;
 }
 
-/* Two recordings that share a time, and the image that both make, which is read below. */
+/* Two recordings that share a time, one by each edition, and the image that both make, which is read below. */
 static void join_both(void) {
-  first_length = record(0, first);
-  second_length = record(TIMES - 1, second);
+  first_length = record(WEJUMO_EDITION_1, 0, first);
+  second_length = record(WEJUMO_EDITION_2, TIMES - 1, second);
   MEASURE(wejumo_join);
   want("wejumo_join", joined.answer, WEJUMO_JOINED);
   image_length = joined.value;

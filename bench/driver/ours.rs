@@ -1,7 +1,7 @@
 //! Our side: lent buffers that are made once for a workload and touched before the first measurement, and not cleared between two.
 
 use crate::workload::{Call, Workload};
-use wejumo::{Answer, Kind, Recorder, State};
+use wejumo::{Answer, Edition, Kind, Recorder, State};
 
 /// The records and the first time.
 pub type Overwritten = (Vec<u64>, u64);
@@ -36,7 +36,7 @@ impl Ours {
     /// Start, calls and finish; the image's length.
     pub fn record(&mut self, w: &Workload) -> usize {
         let mut r = self.recorder(State::default());
-        r.start(w.limit).expect("started");
+        r.start(w.limit, Edition::One).expect("started");
         calls(&mut r, w);
         match r.finish() {
             Ok(Answer::Finished(total)) => total as usize,
@@ -47,7 +47,7 @@ impl Ours {
     /// The state before a finish, and what a cut overwrites: the records and the first time.
     pub fn unfinished(&mut self, w: &Workload) -> (State, Overwritten) {
         let mut r = self.recorder(State::default());
-        r.start(w.limit).expect("started");
+        r.start(w.limit, Edition::One).expect("started");
         calls(&mut r, w);
         (r.state(), (self.records.clone(), self.times[0]))
     }

@@ -140,6 +140,13 @@ fn timed(tpe: SignalEncoding, times: &[Time]) -> Encoder {
     encoder
 }
 
+/// Where edition 2 of document 02's skip rule parts from edition 1, which is the Rust's.
+fn returning() {
+    let skips = |times: &[Time]| timed(SignalEncoding::BitVector(1), times).skipping_time_step;
+    assert!(skips(&[2, 1, 2]), "an equal time leaves the skip");
+    assert!(!skips(&[2, 1, 3]), "a larger time ends it");
+}
+
 /// What document 02 refuses at a join with 15 and 16, and what it takes.
 fn appending() {
     let bit = SignalEncoding::BitVector(1);
@@ -192,6 +199,7 @@ pub(super) fn selftest() {
     calls();
     numbers();
     reading();
+    returning();
     appending();
     appending_unlike();
 }

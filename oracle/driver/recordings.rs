@@ -27,6 +27,8 @@ fn kind(word: &str) -> Option<Kind> {
 }
 
 pub(super) enum Call {
+    /// Of the skip rule, for the starts that follow.
+    Edition(u32),
     Start(BlockTimeIdx, Vec<Kind>),
     Time(Time),
     Change(usize, Change),
@@ -36,6 +38,7 @@ pub(super) enum Call {
 pub(super) fn call(line: &str) -> Option<Call> {
     let words: Vec<&str> = line.split(' ').collect();
     Some(match words[..] {
+        ["edition", number] => Call::Edition(number.parse().ok()?),
         ["start", signals, limit, ..] => {
             let kinds: Option<Vec<Kind>> = words[3..].iter().copied().map(kind).collect();
             let kinds = kinds.filter(|kinds| Ok(kinds.len()) == signals.parse())?;
@@ -311,12 +314,13 @@ pub fn recordings(wanted: Wanted) {
     let mut open = None;
     for (number, line) in std::io::stdin().lock().lines().enumerate() {
         match call(&line.unwrap()) {
-            Some(call) => answer(&mut out, &mut open, call, wanted),
-            None => {
+            Some(Call::Edition(1)) => {} // the only one that the Rust knows
+            Some(Call::Edition(_)) | None => {
                 out.flush().unwrap();
                 eprintln!("oracle: line {} is no call", number + 1);
                 std::process::exit(2);
             }
+            Some(call) => answer(&mut out, &mut open, call, wanted),
         }
     }
     assert!(open.is_none(), "the last recording has no finish");

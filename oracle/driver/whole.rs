@@ -167,7 +167,8 @@ fn unless_panics<T>(run: impl FnOnce() -> T) -> Option<T> {
 }
 
 /// Nothing if the Rust panics.
-pub fn made(limit: u16, kinds: &[u32], steps: &[Step]) -> Option<Made> {
+pub fn made(edition: u32, limit: u16, kinds: &[u32], steps: &[Step]) -> Option<Made> {
+    assert_eq!(edition, 1, "the Rust knows no other");
     unless_panics(|| made_by(limit, kinds, steps))
 }
 
@@ -205,21 +206,26 @@ impl Made {
 }
 
 /// Nothing if the Rust panics.
-pub fn whole(limit: u16, kinds: &[u32], steps: &[Step]) -> Option<Whole> {
-    made(limit, kinds, steps)?.whole()
+pub fn whole(edition: u32, limit: u16, kinds: &[u32], steps: &[Step]) -> Option<Whole> {
+    made(edition, limit, kinds, steps)?.whole()
 }
 
-/// A recording's limit, kinds and calls.
-pub type Sheet = (u16, Vec<u32>, Vec<Step>);
+/// A recording's edition, limit, kinds and calls.
+pub type Sheet = (u32, u16, Vec<u32>, Vec<Step>);
 
 /// The recordings of a text in the form that `oracle recordings` reads.
 pub fn sheets(text: &str) -> Option<Vec<Sheet>> {
     let mut sheets: Vec<Sheet> = Vec::new();
+    let mut edition = 1;
     for line in text.lines() {
         let step = match call(line)? {
+            Call::Edition(chosen) => {
+                edition = chosen;
+                continue;
+            }
             Call::Start(limit, kinds) => {
                 let numbers = kinds.iter().map(recordings::kind_number).collect();
-                sheets.push((limit, numbers, Vec::new()));
+                sheets.push((edition, limit, numbers, Vec::new()));
                 continue;
             }
             Call::Time(time) => Step::Time(time),
@@ -234,7 +240,7 @@ pub fn sheets(text: &str) -> Option<Vec<Sheet>> {
             }
             Call::Finish => Step::Finish,
         };
-        sheets.last_mut()?.2.push(step);
+        sheets.last_mut()?.3.push(step);
     }
     Some(sheets)
 }

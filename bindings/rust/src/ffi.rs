@@ -12,6 +12,7 @@ pub struct State {
     pub blocks: u32,
     pub skip: u32,
     pub skipped: u32,
+    pub edition: u32,
 }
 
 #[repr(C)]
@@ -76,8 +77,8 @@ macro_rules! layout {
 }
 
 const _: () = assert!(usize::BITS == 64);
-layout!(State, 40, closed 0, limit 4, signals 8, held 12, work 16, image 24, blocks 28, skip 32, skipped 36);
-layout!(Outcome, 48, answer 0, value 4, state 8);
+layout!(State, 48, closed 0, limit 4, signals 8, held 12, work 16, image 24, blocks 28, skip 32, skipped 36, edition 40);
+layout!(Outcome, 56, answer 0, value 4, state 8);
 layout!(LoadAnswer, 12, answer 0, value 4, signal_class 8);
 layout!(TableAnswer, 8, answer 0, value 4);
 layout!(JoinAnswer, 8, answer 0, value 4);
@@ -88,8 +89,8 @@ layout!(EntryAnswer, 24, answer 0, value 4, content 8);
 
 extern "C" {
     pub fn wejumo_start(
-        state: State, limit: u32, signals: u32, records: *mut u64, records_length: usize, times: *const u64,
-        times_length: usize, image: *mut u8, image_length: usize,
+        state: State, limit: u32, signals: u32, edition: u32, records: *mut u64, records_length: usize,
+        times: *const u64, times_length: usize, image: *mut u8, image_length: usize,
     ) -> Outcome;
     pub fn wejumo_time_change(
         state: State, records: *mut u64, records_length: usize, times: *mut u64, times_length: usize, work: *const u8,

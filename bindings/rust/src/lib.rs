@@ -14,7 +14,7 @@ pub use ffi::State;
 pub use image::{
     cursor, entry_length, entry_value, join, load, stream, sum, table, Cursor, Entry, Image, Loaded, Value,
 };
-pub use recorder::{Answer, Recorder};
+pub use recorder::{Answer, Edition, Recorder};
 
 /// The number of a refusal: 1 to 11, and 14 to 16 of a join.
 #[derive(Clone, Copy, Debug, PartialEq, Eq)]

@@ -3,6 +3,9 @@
 pub const REAL: u32 = 0xFFFF_FFFE;
 pub const ABSENT: u32 = 0xFFFF_FFFF;
 
+pub const EDITION_1: u32 = 1;
+pub const EDITION_2: u32 = 2;
+
 pub const TWO: u32 = 0;
 pub const FOUR: u32 = 1;
 

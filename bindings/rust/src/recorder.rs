@@ -3,6 +3,24 @@
 use crate::ffi::{self, Outcome, State};
 use crate::{numbers, Refusal};
 
+/// Editions of the skip rule. A time below the last one starts a skip: the changes that follow are counted, not recorded, until it ends.
+#[derive(Clone, Copy, Debug, PartialEq, Eq)]
+pub enum Edition {
+    /// Only a time above the last one ends a skip.
+    One,
+    /// A time equal to the last one ends it too.
+    Two,
+}
+
+impl Edition {
+    fn number(self) -> u32 {
+        match self {
+            Edition::One => numbers::EDITION_1,
+            Edition::Two => numbers::EDITION_2,
+        }
+    }
+}
+
 /// What a call of the recorder answers, unless it is refused.
 #[derive(Clone, Copy, Debug, PartialEq, Eq)]
 pub enum Answer {
@@ -61,8 +79,8 @@ impl<'a> Recorder<'a> {
         &self.image[..used]
     }
 
-    /// At most `limit` times a block; a signal for each record.
-    pub fn start(&mut self, limit: u32) -> Result<Answer, Refusal> {
+    /// At most `limit` times a block, by an edition of the skip rule; a signal for each record.
+    pub fn start(&mut self, limit: u32, edition: Edition) -> Result<Answer, Refusal> {
         // More records than a u32 counts are more than a start takes; then the number is not that of the records, and it is refused.
         let signals = u32::try_from(self.records.len()).unwrap_or(u32::MAX);
         // Safety: the slices are borrowed, and each is a field of its own.
@@ -71,6 +89,7 @@ impl<'a> Recorder<'a> {
                 self.state,
                 limit,
                 signals,
+                edition.number(),
                 self.records.as_mut_ptr(),
                 self.records.len(),
                 self.times.as_ptr(),

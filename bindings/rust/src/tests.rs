@@ -1,6 +1,8 @@
-//! The recording of the bench sheet, refusals, reads with and without opening, and joins.
+//! The recording of the bench sheet, refusals, editions of the skip rule, reads with and without opening, and joins.
 
 use crate::*;
+
+const EDITIONS: [Edition; 2] = [Edition::One, Edition::Two];
 
 /// Widths 1 and 4, B 4; time 10, "1", "b1x"; time 20, second "b0001"; finish.
 const SHEET: &str =
@@ -16,10 +18,14 @@ fn bytes_of(text: &str) -> Vec<u8> {
 }
 
 fn sheet() -> Vec<u8> {
+    sheet_by(Edition::One)
+}
+
+fn sheet_by(edition: Edition) -> Vec<u8> {
     let (mut records, mut times) = ([Kind::Vector(1).record(), Kind::Vector(4).record()], [0; 4]);
     let (mut work, mut image) = ([0; 64], [0; 80]);
     let mut recorder = Recorder::new(&mut records, &mut times, &mut work, &mut image);
-    assert_eq!(recorder.start(4), Ok(Answer::Started));
+    assert_eq!(recorder.start(4, edition), Ok(Answer::Started));
     assert_eq!(recorder.vcd(0, b"1"), Err(Refusal(3)));
     assert_eq!(recorder.time(10), Ok(Answer::Taken));
     assert_eq!(recorder.vcd(0, b"1"), Ok(Answer::Recorded));
@@ -37,7 +43,9 @@ fn sheet() -> Vec<u8> {
 
 #[test]
 fn bench_sheet() {
-    assert_eq!(sheet(), bytes_of(SHEET));
+    for edition in EDITIONS {
+        assert_eq!(sheet_by(edition), bytes_of(SHEET));
+    }
 }
 
 #[test]
@@ -205,13 +213,14 @@ fn refusals_keep_every_number() {
             blocks: 25,
             skip: !flag,
             skipped: 26,
+            edition: 27,
         };
         let (mut records, mut times, mut work, mut image) = ([5; 1], [6; 2], [7; 3], [8; 4]);
         let mut recorder = Recorder::resume(state, &mut records, &mut times, &mut work, &mut image);
         assert_eq!(recorder.time(1), Err(Refusal(2)));
         assert_eq!(recorder.vcd(0, b"1"), Err(Refusal(2)));
         assert_eq!(recorder.finish(), Err(Refusal(2)));
-        assert_eq!(recorder.start(1), Err(Refusal(1)));
+        assert_eq!(recorder.start(1, Edition::Two), Err(Refusal(1)));
         assert_eq!(recorder.state(), state);
         assert_eq!((records, times, work, image), ([5; 1], [6; 2], [7; 3], [8; 4]));
     }
@@ -221,7 +230,7 @@ fn refusals_keep_every_number() {
 fn a_flag_keeps_its_number_or_becomes_one() {
     let (mut records, mut times, mut work, mut image) = ([0; 1], [0; 2], [0; 32], [0; 64]);
     let mut recorder = Recorder::new(&mut records, &mut times, &mut work, &mut image);
-    assert_eq!(recorder.start(2), Ok(Answer::Started));
+    assert_eq!(recorder.start(2, Edition::One), Ok(Answer::Started));
     assert_eq!(recorder.time(5), Ok(Answer::Taken));
     assert_eq!(recorder.time(4), Ok(Answer::Back));
     assert_eq!(recorder.state().skip, 1);
@@ -237,12 +246,146 @@ fn a_flag_keeps_its_number_or_becomes_one() {
     assert_eq!(recorder.finish().map(|_| recorder.state().closed), Ok(1));
 }
 
+/// What these calls on an event answer (v is a change), how many changes were skipped, and the image left.
+fn slips(edition: Edition) -> (Vec<Answer>, u32, Vec<u8>) {
+    let (mut records, mut times, mut work, mut image) = ([0; 1], [0; 2], [0; 32], [0; 64]);
+    let mut recorder = Recorder::new(&mut records, &mut times, &mut work, &mut image);
+    assert_eq!(recorder.start(2, edition), Ok(Answer::Started));
+    let said = "10 5 v 10 v 10 v 9 9 v".split(' ').map(|word| match word.parse() {
+        Ok(time) => recorder.time(time).unwrap(),
+        Err(_) => recorder.vcd(0, b"1").unwrap(),
+    });
+    let said = said.collect();
+    recorder.finish().unwrap();
+    (said, recorder.skipped(), recorder.image().to_vec())
+}
+
+#[test]
+fn an_equal_time_leaves_a_skip_in_edition_1() {
+    use Answer::*;
+    let (said, skipped, image) = slips(Edition::One);
+    assert_eq!(
+        said,
+        [Taken, Back, Skipped, Same, Skipped, Same, Skipped, Back, Back, Skipped]
+    );
+    assert_eq!(skipped, 4);
+    assert_eq!(shown(&image, 0), (States::Nine, vec![], vec![], vec![10]));
+}
+
+#[test]
+fn an_equal_time_ends_a_skip_in_edition_2() {
+    use Answer::*;
+    let (said, skipped, image) = slips(Edition::Two);
+    assert_eq!(
+        said,
+        [Taken, Back, Skipped, Same, Recorded, Same, Recorded, Back, Back, Skipped]
+    );
+    assert_eq!(skipped, 2);
+    assert_eq!(shown(&image, 0), (States::Two, vec![0, 0], vec![], vec![10]));
+}
+
+/// B 2. Equal times without a skip, before and after a cut, and a skip that a later time ends.
+#[test]
+fn without_an_equal_time_in_a_skip_editions_are_alike() {
+    let [one, two] = EDITIONS.map(|edition| {
+        recorded_by(edition, &[0, numbers::REAL, 2], 2, |r| {
+            r.time(3)?;
+            r.time(3)?;
+            r.vcd(0, b"1")?;
+            r.time(5)?;
+            r.vcd(2, b"1x")?;
+            r.time(7)?;
+            r.time(7)?;
+            r.real(1, 1)?;
+            r.time(6)?;
+            r.vcd(0, b"1")?;
+            r.time(9)?;
+            r.vcd(2, b"11")
+        })
+    });
+    assert_eq!(one, two);
+    let times = vec![3, 5, 7, 9];
+    assert_eq!(shown(&two, 0), (States::Two, vec![0], vec![], times.clone()));
+    assert_eq!(
+        shown(&two, 1),
+        (States::Two, vec![2], 1_u64.to_le_bytes().to_vec(), times.clone())
+    );
+    assert_eq!(shown(&two, 2), (States::Four, vec![1, 3], vec![0x46, 0x03], times));
+}
+
+/// The types have no other edition, the C interface has.
+#[test]
+fn only_editions_1_and_2_start() {
+    let state = State {
+        closed: 1,
+        skipped: 5,
+        edition: 2,
+        ..State::default()
+    };
+    for edition in [0, 1, 2, 3, u32::MAX] {
+        let (mut records, times, mut image) = ([7 << 32], [6; 2], [8; 20]);
+        let (r, t, i) = (records.as_mut_ptr(), times.as_ptr(), image.as_mut_ptr());
+        // Safety: the arrays are borrowed, and each is one of its own.
+        let done = unsafe { ffi::wejumo_start(state, 2, 1, edition, r, 1, t, 2, i, 20) };
+        if edition == 1 || edition == 2 {
+            let started = (done.answer, done.state.edition, done.state.skipped);
+            assert_eq!(started, (numbers::STARTED, edition, 0));
+        } else {
+            assert_eq!((done.answer, done.value, done.state), (0, 1, state));
+            assert_eq!((records, times, image), ([7 << 32], [6; 2], [8; 20]));
+        }
+    }
+}
+
+/// Records, times, work and image.
+type Buffers = ([u64; 2], [u64; 2], [u8; 64], [u8; 128]);
+
+/// The state and the buffers after a start, these times and, before the last of them, a change.
+fn left_after(edition: Edition, first: u64, last: u64) -> (State, Buffers) {
+    let (mut records, mut times, mut work, mut image) = ([1, Kind::Real.record()], [0; 2], [0; 64], [0; 128]);
+    let mut recorder = Recorder::new(&mut records, &mut times, &mut work, &mut image);
+    assert_eq!(recorder.start(2, edition), Ok(Answer::Started));
+    assert_eq!(recorder.time(first), Ok(Answer::Taken));
+    assert_eq!(recorder.vcd(0, b"1"), Ok(Answer::Recorded));
+    recorder.time(last).unwrap();
+    (recorder.state(), (records, times, work, image))
+}
+
+/// Each call on a state is refused with this number, and leaves state and buffers.
+fn all_refused(state: State, buffers: &Buffers, number: u32) {
+    let (mut records, mut times, mut work, mut image) = *buffers;
+    let mut recorder = Recorder::resume(state, &mut records, &mut times, &mut work, &mut image);
+    for time in [4, 5, 6, 7] {
+        assert_eq!(recorder.time(time), Err(Refusal(number)));
+    }
+    assert_eq!(recorder.vcd(0, b"1"), Err(Refusal(number)));
+    assert_eq!(recorder.raw(0, 0, &[1]), Err(Refusal(number)));
+    assert_eq!(recorder.real(1, 0), Err(Refusal(number)));
+    assert_eq!(recorder.finish(), Err(Refusal(number)));
+    assert_eq!(recorder.state(), state);
+    assert_eq!((records, times, work, image), *buffers);
+}
+
+/// Without a skip and in one.
+#[test]
+fn an_altered_edition_is_told() {
+    for last in [6, 4] {
+        for (state, buffers) in EDITIONS.map(|edition| left_after(edition, 5, last)) {
+            for edition in [0, 3, u32::MAX] {
+                let altered = State { edition, ..state };
+                all_refused(altered, &buffers, 10);
+                all_refused(State { closed: 1, ..altered }, &buffers, 2);
+            }
+        }
+    }
+}
+
 #[test]
 fn no_width_is_taken_for_another_kind() {
     for width in [65_537, 0xFFFF_FFFD, 0xFFFF_FFFE, 0xFFFF_FFFF] {
         let (mut records, mut times, mut work, mut image) = ([Kind::Vector(width).record()], [0; 2], [0; 32], [0; 64]);
         let mut recorder = Recorder::new(&mut records, &mut times, &mut work, &mut image);
-        assert_eq!(recorder.start(2), Err(Refusal(1)));
+        assert_eq!(recorder.start(2, Edition::One), Err(Refusal(1)));
     }
 }
 
@@ -270,7 +413,7 @@ fn short_vectors_extend() {
 fn h_and_l_do_not_extend() {
     let (mut records, mut times, mut work, mut image) = ([Kind::Vector(3).record()], [0; 2], [0; 32], [0; 64]);
     let mut recorder = Recorder::new(&mut records, &mut times, &mut work, &mut image);
-    assert_eq!(recorder.start(2), Ok(Answer::Started));
+    assert_eq!(recorder.start(2, Edition::One), Ok(Answer::Started));
     assert_eq!(recorder.time(5), Ok(Answer::Taken));
     let state = recorder.state();
     for value in [b"h".as_slice(), b"H", b"l", b"l1", b"bL", b"0bh"] {
@@ -292,10 +435,16 @@ fn a_sum_keeps_every_byte() {
 
 /// The image of a recording: its kinds by number, B, and its calls, none of which is refused.
 fn recorded(kinds: &[u32], limit: u32, calls: impl Fn(&mut Recorder) -> Result<Answer, Refusal>) -> Vec<u8> {
+    recorded_by(Edition::One, kinds, limit, calls)
+}
+
+fn recorded_by(
+    edition: Edition, kinds: &[u32], limit: u32, calls: impl Fn(&mut Recorder) -> Result<Answer, Refusal>,
+) -> Vec<u8> {
     let mut records: Vec<u64> = kinds.iter().map(|kind| Kind::from_number(*kind).record()).collect();
     let (mut times, mut work, mut image) = ([0; 4], [0; 64], [0; 256]);
     let mut recorder = Recorder::new(&mut records, &mut times, &mut work, &mut image);
-    assert_eq!(recorder.start(limit), Ok(Answer::Started));
+    assert_eq!(recorder.start(limit, edition), Ok(Answer::Started));
     calls(&mut recorder).unwrap();
     recorder.finish().unwrap();
     recorder.image().to_vec()

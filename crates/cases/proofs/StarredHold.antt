@@ -17,17 +17,17 @@ use Rattle.stream.specs.Stream.{changeBytes}
 use Rattle.image.specs.Block.{les, dataOf, offsetsFrom, blockBytes}
 use Rattle.image.specs.Head.{headBytes}
 use Rattle.recording.specs.Calls.{time, change, finish, wayOf}
-use Rattle.recording.specs.State.{skipBegun, skipEnded, skipCounted}
+use Rattle.recording.specs.State.{skipBegun, skipEnded, skipSame, skipCounted}
 use Rattle.recording.specs.Work.{itemsOf, gather}
 use Rattle.recording.specs.Refusals.{unknownKind, startTests, stateTests}
 use Rattle.recording.specs.Step.{partsFrom, cutOf, timeOf, changeOf, finishOf, startOf, step, run}
 use Rattle.loaded.specs.EntryBytes.{entryBytes}
-use Rattle.recording.specs.Runs.{lent, ran, imageLeft}
+use Rattle.recording.specs.Runs.{lent, ranIn, ran, imageLeft}
 use Rattle.cases.specs.Starred.{holds, allHold, starred}
 
 pub starred-hold : allHold starred ≡ true
 unfolding groups lebOf le unle symbolOf classOfAll symbolsIn lastOr vcdBit textOf extended textSymbols numberOf digits packed decode changeBytes les dataOf offsetsFrom blockBytes
-    headBytes wayOf skipBegun skipEnded skipCounted itemsOf gather unknownKind startTests stateTests partsFrom cutOf timeOf changeOf finishOf startOf step run lent ran imageLeft
+    headBytes wayOf skipBegun skipEnded skipSame skipCounted itemsOf gather unknownKind startTests stateTests partsFrom cutOf timeOf changeOf finishOf startOf step run lent ranIn ran imageLeft
     same entryBytes holds allHold starred
 starred-hold = refl
 
@@ -39,5 +39,5 @@ pub image-left : imageLeft 4 (BitVector 1 ∷ BitVector 4 ∷ [])
     ∷ 0x0a ∷ 0 ∷ 0 ∷ 0 ∷ 0 ∷ 0 ∷ 0 ∷ 0 ∷ 0x14 ∷ 0 ∷ 0 ∷ 0 ∷ 0 ∷ 0 ∷ 0 ∷ 0
     ∷ 0x00 ∷ 0x01 ∷ 0x01 ∷ 0x01 ∷ 0x06 ∷ 0x04 ∷ 0x01 ∷ []
 unfolding groups lebOf le unle symbolOf classOfAll symbolsIn lastOr vcdBit textOf extended textSymbols numberOf digits packed decode changeBytes les dataOf offsetsFrom blockBytes
-    headBytes wayOf skipBegun skipEnded skipCounted itemsOf gather unknownKind startTests stateTests partsFrom cutOf timeOf changeOf finishOf startOf step run lent ran imageLeft
+    headBytes wayOf skipBegun skipEnded skipSame skipCounted itemsOf gather unknownKind startTests stateTests partsFrom cutOf timeOf changeOf finishOf startOf step run lent ranIn ran imageLeft
 image-left = refl

@@ -10,7 +10,7 @@ use Rattle.demand.proofs.JoinLaws.{told-join}
 use Rattle.demand.proofs.TellsLaws.{accepted-tells}
 
 pub tells-told : (ks : List SignalEncoding) (h : History) (b : List ℕ) → Tells ks h b → Told ks h b
-tells-told _ _ _ (left limit signals m calls size r) = recorded-told limit signals m calls size r
+tells-told _ _ _ (left settings m calls size r) = recorded-told settings m calls size r
 tells-told _ _ _ (join ks ls h k a b out size s t e) = told-join ks ls h k a b out size (tells-told ks h a s) (tells-told ls k b t) e
 
 pub demand : Demand3

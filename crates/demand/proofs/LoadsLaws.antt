@@ -21,6 +21,7 @@ use Rattle.image.specs.Image.{Image, image, imageBytes}
 use Rattle.codec.specs.Valid.{Rising, Valid}
 use Rattle.codec.specs.Parse.{parse}
 use Rattle.codec.proofs.Trip.{parse-of}
+use Rattle.recording.specs.declared.Settings.{Settings}
 use Rattle.recording.specs.declared.ProbeSkip.{ProbeSkip}
 use Rattle.recording.specs.Calls.{Call, finish, heard}
 use Rattle.recording.specs.Memory.{Memory, After, refused}
@@ -177,28 +178,28 @@ module _ (m : Memory) where
 
 -- ---- a recording
 
-module _ (limit signals : ℕ) (m : Memory) (calls : List Call) (size : ℕ) (r : Recorded limit signals m calls size) where
-  pub follows : Follows limit (kindsOf (m .records)) (ranFrom limit signals m calls) (historyOf limit signals m calls)
+module _ (settings : Settings) (m : Memory) (calls : List Call) (size : ℕ) (r : Recorded settings m calls size) where
+  pub follows : Follows settings (kindsOf (m .records)) (ranFrom settings m calls) (historyOf settings m calls)
   follows =
-      run-follows limit (kindsOf (m .records)) calls (startOf limit signals m .memory) noModel noHistory (r .fitting)
-      (start-stands limit signals m (start-taken limit signals m (r .start)))
+      run-follows settings (kindsOf (m .records)) calls (startOf settings m .memory) noModel noHistory (r .fitting)
+      (start-stands settings m (start-taken settings m (r .start)))
 
-  pub recorded-told : Told (kindsOf (m .records)) (historyOf limit signals m calls .last) (leftBy limit signals m calls size)
+  pub recorded-told : Told (kindsOf (m .records)) (historyOf settings m calls .last) (leftBy settings m calls size)
   recorded-told =
       let e = follows in
-      let k = known-kinds (m .records) (start-taken limit signals m (r .start) .known) in
-      finished-told limit (kindsOf (m .records)) (historyOf limit signals m calls .last) (leftBy limit signals m calls size)
-      (finish-leaves limit (kindsOf (m .records)) (ranFrom limit signals m calls .last) (e .model) (historyOf limit signals m calls .last) size k (e .stands) (r .end))
+      let k = known-kinds (m .records) (start-taken settings m (r .start) .known) in
+      finished-told (settings .limit) (kindsOf (m .records)) (historyOf settings m calls .last) (leftBy settings m calls size)
+      (finish-leaves settings (kindsOf (m .records)) (ranFrom settings m calls .last) (e .model) (historyOf settings m calls .last) size k (e .stands) (r .end))
 
-  pub recorded-answers : heard (ranFrom limit signals m calls .replies) ≡ historyOf limit signals m calls .answers
+  pub recorded-answers : heard (ranFrom settings m calls .replies) ≡ historyOf settings m calls .answers
   recorded-answers = follows .answers
 
-  pub recorded-count : step (ranFrom limit signals m calls .last) finish .memory .state .skips .count ≡ historyOf limit signals m calls .last .skips .count
+  pub recorded-count : step (ranFrom settings m calls .last) finish .memory .state .skips .count ≡ historyOf settings m calls .last .skips .count
   unfolding step
   recorded-count =
       let e = follows in
-      ap (λ (k : ProbeSkip). k .count) (finish-skips (ranFrom limit signals m calls .last) ∙ e .stands .rep .skips ∙ e .stands .same .skips)
+      ap (λ (k : ProbeSkip). k .count) (finish-skips (ranFrom settings m calls .last) ∙ e .stands .rep .skips ∙ e .stands .same .skips)
 
   -- nobody altered memory between the calls, so none is refused by 10
-  pub recorded-never-ten : NeverTen (ranFrom limit signals m calls .replies)
+  pub recorded-never-ten : NeverTen (ranFrom settings m calls .replies)
   recorded-never-ten = follows .not-ten

@@ -25,14 +25,14 @@ use Rattle.stream.specs.Entries.{entry, streamBytes}
 use Rattle.image.specs.Block.{les, dataOf, offsetsFrom, blockBytes}
 use Rattle.image.specs.Head.{headBytes}
 use Rattle.image.specs.Image.{streamedParts, blocksBytes, imageBytes}
-use Rattle.recording.specs.Calls.{Call, Slice, Fitting, time, change, finish, taken, back, recorded, skipped, Reply, say, refusals, heard, wayOf}
+use Rattle.recording.specs.Calls.{Call, Slice, CallFits, Fitting, time, change, finish, taken, back, recorded, skipped, Reply, say, refusals, heard, wayOf}
 use Rattle.recording.specs.Calls as calls
 use Rattle.recording.specs.Work.{itemsOf, gather}
 use Rattle.recording.specs.Memory.{Memory, memory, recordOf}
 use Rattle.recording.specs.Refusals.{unknownKind, startTests, stateTests}
-use Rattle.recording.specs.State.{skipBegun, skipEnded, skipCounted}
+use Rattle.recording.specs.State.{skipBegun, skipEnded, skipSame, skipCounted, settingsOf}
 use Rattle.recording.specs.Step.{partsFrom, cutOf, timeOf, changeOf, finishOf, startOf, step, run, kindsOf}
-use Rattle.recording.specs.Runs.{staleState}
+use Rattle.recording.specs.Runs.{staleState, sames}
 use Rattle.history.specs.History.{Telling, noHistory, tell, tellAll, listOf, keptAfter, kept, keptOf, topOf, classOf}
 use Rattle.form.specs.Form.{repeat, each, getChain}
 use Rattle.codec.specs.Layout.{lengths, layoutForm}
@@ -44,7 +44,7 @@ use Rattle.loaded.specs.Loading.{tableFrom, moved, repeatsLast, pushed, loadFro
 use Rattle.loaded.specs.EntryBytes.{entryBytes, entriesBytes}
 use Rattle.loaded.specs.Reader.{loadOf, loadAfter, loaded, loadIn, tableOf, tableAfter, counted, tableIn}
 use Rattle.loaded.specs.Reader as reader
-use Rattle.demand.specs.Demand3.{RecordsFit, Lent, Recorded, ranFrom, leftBy}
+use Rattle.demand.specs.Demand3.{RecordsFit, Lent, Recorded, ranFrom, leftBy, historyOf}
 
 -- a vector of width 2, an event, a real, an absent signal; B 2
 abbrev mixed : Memory
@@ -64,8 +64,8 @@ mixedCalls =
     ∷ change 2 (real 0)
     ∷ time 1  -- back
     ∷ change 0 (vcd (113 ∷ []))  -- "q", skipped
-    ∷ time 2  -- same: the skip stands
-    ∷ change 9 (vcd [])  -- skipped
+    ∷ time 2  -- same: the skip stands in edition 1, and ends in edition 2
+    ∷ change 9 (vcd [])  -- skipped; in edition 2 refused with 4
     ∷ time 3  -- cuts
     ∷ change 0 (vcd (49 ∷ 120 ∷ []))  -- "1x" again
     ∷ change 0 (raw 2 (0x12 ∷ []))  -- and again, raw, claiming Nine
@@ -84,9 +84,9 @@ mixedImage =
     ++ (les 4 (53 ∷ 2 ∷ 4 ∷ 1 ∷ 8 ∷ 0 ∷ 0 ∷ []) ++ (les 8 (2 ∷ 3 ∷ [])
     ++ (0x02 ∷ 0x05 ∷ 0x06 ∷ 0x01 ∷ 0x06 ∷ 0x00 ∷ 0x01 ∷ 0x00 ∷ 0x01 ∷ [])))))))
 
-pub mixed-left : leftBy 2 4 mixed mixedCalls 153 ≡ mixedImage
+pub mixed-left : leftBy (settingsOf 2 4 1) mixed mixedCalls 153 ≡ mixedImage
 unfolding groups lebOf le unle symbolOf classOfAll allSymbols symbolsIn lastOr vcdBit textOf extended textSymbols numberOf digits packed unpacked rawSymbols decode changeBytes les
-    dataOf offsetsFrom blockBytes headBytes wayOf skipBegun skipEnded skipCounted itemsOf gather unknownKind startTests stateTests partsFrom cutOf timeOf changeOf finishOf startOf
+    dataOf offsetsFrom blockBytes headBytes wayOf skipBegun skipEnded skipSame skipCounted itemsOf gather unknownKind startTests stateTests partsFrom cutOf timeOf changeOf finishOf startOf
     step run
 mixed-left = refl
 
@@ -102,7 +102,7 @@ nines-slice n h = (nines-at n, rw (length-replicate {A = ℕ} n 99) h)
 mixed-lent : Lent mixed
 unfolding RecordsFit
 mixed-lent = record {
-  state = record { limit = omega arith; signals = omega arith; held = omega arith; work = omega arith; image = omega arith; blocks = omega arith; skipped = omega arith };
+  state = record { limit = omega arith; signals = omega arith; held = omega arith; work = omega arith; image = omega arith; blocks = omega arith; edition = omega arith; skipped = omega arith };
   records = ((omega arith, omega arith), ((omega arith, omega arith), ((omega arith, omega arith), ((omega arith, omega arith), tt))));
   work = nines-slice 64 (omega arith);
   image = nines-slice 200 (omega arith);
@@ -165,9 +165,9 @@ mixed-fits = (
   ),
 )
 
-pub mixed-recorded : Recorded 2 4 mixed mixedCalls 153
+pub mixed-recorded : Recorded (settingsOf 2 4 1) mixed mixedCalls 153
 unfolding groups lebOf le unle symbolOf classOfAll allSymbols symbolsIn lastOr vcdBit textOf extended textSymbols numberOf digits packed unpacked rawSymbols decode changeBytes les
-    dataOf offsetsFrom blockBytes headBytes wayOf skipBegun skipEnded skipCounted itemsOf gather unknownKind startTests stateTests partsFrom cutOf timeOf changeOf finishOf startOf
+    dataOf offsetsFrom blockBytes headBytes wayOf skipBegun skipEnded skipSame skipCounted itemsOf gather unknownKind startTests stateTests partsFrom cutOf timeOf changeOf finishOf startOf
     step run
 mixed-recorded = record { lent = mixed-lent; fitting = mixed-fits; start = refl; end = refl }
 
@@ -176,15 +176,28 @@ mixedReplies =
     calls.refuse 3 ∷ say taken ∷ say recorded ∷ say recorded ∷ say taken ∷ say recorded ∷ say recorded ∷ say back ∷ say skipped ∷ say calls.same ∷ say skipped
     ∷ say taken ∷ say recorded ∷ say recorded ∷ calls.refuse 6 ∷ calls.refuse 4 ∷ say recorded ∷ say recorded ∷ []
 
-pub mixed-replies : (ranFrom 2 4 mixed mixedCalls .replies ≡ mixedReplies) × (step (ranFrom 2 4 mixed mixedCalls .last) finish .memory .state .skips .count ≡ 2)
+pub mixed-replies : let r = ranFrom (settingsOf 2 4 1) mixed mixedCalls in (r .replies ≡ mixedReplies) × (step (r .last) finish .memory .state .skips .count ≡ 2)
 unfolding groups lebOf le unle symbolOf classOfAll allSymbols symbolsIn lastOr vcdBit textOf extended textSymbols numberOf digits packed unpacked rawSymbols decode changeBytes les
-    dataOf offsetsFrom blockBytes headBytes wayOf skipBegun skipEnded skipCounted itemsOf gather unknownKind startTests stateTests partsFrom cutOf timeOf changeOf finishOf startOf
+    dataOf offsetsFrom blockBytes headBytes wayOf skipBegun skipEnded skipSame skipCounted itemsOf gather unknownKind startTests stateTests partsFrom cutOf timeOf changeOf finishOf startOf
     step run
 mixed-replies = (refl, refl)
 
+-- in edition 2 the equal time ends the skip, so the change of signal 9 is refused with 4: another count, and the same image
+abbrev repliesOfTwo : List Reply
+repliesOfTwo =
+    calls.refuse 3 ∷ say taken ∷ say recorded ∷ say recorded ∷ say taken ∷ say recorded ∷ say recorded ∷ say back ∷ say skipped ∷ say calls.same ∷ calls.refuse 4
+    ∷ say taken ∷ say recorded ∷ say recorded ∷ calls.refuse 6 ∷ calls.refuse 4 ∷ say recorded ∷ say recorded ∷ []
+
+pub mixed-in-two : let r = ranFrom (settingsOf 2 4 2) mixed mixedCalls in
+    (r .replies ≡ repliesOfTwo) × (step (r .last) finish .memory .state .skips .count ≡ 1) × (leftBy (settingsOf 2 4 2) mixed mixedCalls 153 ≡ mixedImage)
+unfolding groups lebOf le unle symbolOf classOfAll allSymbols symbolsIn lastOr vcdBit textOf extended textSymbols numberOf digits packed unpacked rawSymbols decode changeBytes les
+    dataOf offsetsFrom blockBytes headBytes wayOf skipBegun skipEnded skipSame skipCounted itemsOf gather unknownKind startTests stateTests partsFrom cutOf timeOf changeOf finishOf startOf
+    step run
+mixed-in-two = (refl, refl, refl)
+
 -- the history, fed which of these are refusals: the same answers and count; times, kept changes and classes
 abbrev mixedTold : Telling
-mixedTold = tellAll (kindsOf (mixed .records)) noHistory mixedCalls (refusals mixedReplies)
+mixedTold = tellAll (kindsOf (mixed .records)) 1 noHistory mixedCalls (refusals mixedReplies)
 
 pub mixed-told : (mixedTold .answers ≡ heard mixedReplies) × (mixedTold .last .skips .count ≡ 2) × (mixedTold .last .times ≡ 1 ∷ 2 ∷ 3 ∷ [])
 unfolding symbolOf classOfAll allSymbols symbolsIn lastOr vcdBit textOf extended textSymbols numberOf digits unpacked rawSymbols decode wayOf tell tellAll same listOf keptAfter kept topOf
@@ -209,3 +222,59 @@ unfolding les parse imageForm headForm blockForm layoutForm repeat each lengths 
     contentFits? entryFits? entriesFit? partFits? partsFit? starts? blockFits? blocksFit? valid? tableFrom tableIn moved repeatsLast pushed loadFrom entryBytes entriesBytes loadIn
     same
 mixed-loads = (refl, refl, refl, refl, refl, refl)
+
+-- ---- document 02, (j): a clock slips and returns to the time that it left; in edition 2 the changes after it are recorded
+
+-- a signal of width 1; B 4
+abbrev returning : Memory
+returning = memory staleState (recordOf (BitVector 1) 7 Nine ∷ []) (replicate 4 99) (replicate 64 99) (replicate 64 99)
+
+-- time 10, and at it 0 and 1
+abbrev returnImage : List ℕ
+returnImage = les 4 (1 ∷ 4 ∷ 1 ∷ 47 ∷ 1 ∷ []) ++ (les 4 (27 ∷ 1 ∷ 1 ∷ 1 ∷ []) ++ (les 8 (10 ∷ []) ++ (0x00 ∷ 0x00 ∷ 0x01 ∷ [])))
+
+returning-lent : Lent returning
+unfolding RecordsFit
+returning-lent = record {
+  state = record { limit = omega arith; signals = omega arith; held = omega arith; work = omega arith; image = omega arith; blocks = omega arith; edition = omega arith; skipped = omega arith };
+  records = ((omega arith, omega arith), tt);
+  work = nines-slice 64 (omega arith);
+  image = nines-slice 64 (omega arith);
+  times = λ i. let h = nines-at 4 i in omega arith;
+  long = omega arith;
+}
+
+sames-fit : Fitting sames
+unfolding Fitting
+sames-fit =
+    let zero-fits : CallFits (change 0 (vcd (48 ∷ []))) = (omega arith, one 48 (omega arith)) in
+    let one-fits : CallFits (change 0 (vcd (49 ∷ []))) = (omega arith, one 49 (omega arith)) in
+    (omega arith, (omega arith, (one-fits, (omega arith, (zero-fits, (omega arith, (one-fits, (omega arith, (omega arith, (zero-fits, tt))))))))))
+
+pub return-recorded : Recorded (settingsOf 4 1 2) returning sames 47
+unfolding groups lebOf le unle symbolOf classOfAll allSymbols symbolsIn lastOr vcdBit textOf extended textSymbols numberOf digits packed unpacked rawSymbols decode changeBytes les
+    dataOf offsetsFrom blockBytes headBytes wayOf skipBegun skipEnded skipSame skipCounted itemsOf gather unknownKind startTests stateTests partsFrom cutOf timeOf changeOf finishOf startOf
+    step run
+return-recorded = record { lent = returning-lent; fitting = sames-fit; start = refl; end = refl }
+
+pub return-left : leftBy (settingsOf 4 1 2) returning sames 47 ≡ returnImage
+unfolding groups lebOf le unle symbolOf classOfAll allSymbols symbolsIn lastOr vcdBit textOf extended textSymbols numberOf digits packed unpacked rawSymbols decode changeBytes les
+    dataOf offsetsFrom blockBytes headBytes wayOf skipBegun skipEnded skipSame skipCounted itemsOf gather unknownKind startTests stateTests partsFrom cutOf timeOf changeOf finishOf startOf
+    step run
+return-left = refl
+
+pub return-told : let h = historyOf (settingsOf 4 1 2) returning sames in
+    (h .answers ≡ taken ∷ back ∷ skipped ∷ calls.same ∷ recorded ∷ calls.same ∷ recorded ∷ back ∷ back ∷ skipped ∷ [])
+    × (h .last .times ≡ 10 ∷ []) × (h .last .skips .count ≡ 2) × (keptOf (h .last) 0 ≡ entry 0 (symbols (0 ∷ [])) ∷ entry 0 (symbols (1 ∷ [])) ∷ [])
+unfolding groups lebOf le unle symbolOf classOfAll allSymbols symbolsIn lastOr vcdBit textOf extended textSymbols numberOf digits packed unpacked rawSymbols decode changeBytes les
+    dataOf offsetsFrom blockBytes headBytes wayOf skipBegun skipEnded skipSame skipCounted itemsOf gather unknownKind startTests stateTests partsFrom cutOf timeOf changeOf finishOf startOf
+    step run tell tellAll same listOf keptAfter kept
+return-told = (refl, refl, refl, refl)
+
+pub return-loads : (openOf returnImage ≡ true) × (tableOf returnImage (9 ∷ []) ≡ tableAfter (counted 1) (10 ∷ []))
+    × (loadOf returnImage 0 (9 ∷ 9 ∷ []) (9 ∷ 9 ∷ []) ≡ loadAfter (loaded 2 0) (0 ∷ 0 ∷ []) (0 ∷ 1 ∷ []))
+unfolding les parse imageForm headForm blockForm layoutForm repeat each lengths unle readLeb stream getChain readChange valueAfter unpacked classOfAll allSymbols digits numberOf
+    lastOr imageBytes blocksBytes streamedParts streamBytes headBytes blockBytes dataOf offsetsFrom le lebOf groups changeBytes packed risingFrom? rising? eachBelow? knownKinds?
+    contentFits? entryFits? entriesFit? partFits? partsFit? starts? blockFits? blocksFit? valid? tableFrom tableIn moved repeatsLast pushed loadFrom entryBytes entriesBytes loadIn
+    same
+return-loads = (refl, refl, refl)

@@ -31,17 +31,17 @@ use Rattle.codec.proofs.Growth.{blocks-one, blocks-first}
 use Rattle.codec.specs.Parse.{parse}
 use Rattle.codec.proofs.ImageFits.{image-size, known-at}
 use Rattle.codec.proofs.Trip.{parse-of, parse-is}
+use Rattle.recording.specs.declared.Settings.{Settings}
 use Rattle.recording.specs.declared.SignalRecord.{SignalRecord}
 use Rattle.recording.specs.Calls.{Call, Slice, Fitting}
 use Rattle.recording.specs.Memory.{Memory, memory, After, recordOf}
 use Rattle.recording.specs.Refusals.{unknownKind}
-use Rattle.recording.specs.State.{closedState}
+use Rattle.recording.specs.State.{closedState, settingsOf}
 use Rattle.recording.specs.Step.{kindsOf}
 use Rattle.loaded.specs.Opener.{openOf}
 use Rattle.model.proofs.Rebuild.{imageCalls}
-use Rattle.follow.specs.Start.{Startable}
+use Rattle.recording.proofs.StartLaws.{StartableIn, start-fits}
 use Rattle.follow.proofs.ChangeLaws.{mostBytes}
-use Rattle.follow.proofs.Start.{start-is}
 use Rattle.follow.proofs.RebuiltFits.{image-fit}
 use Rattle.follow.proofs.RebuiltCount.{image-count}
 use Rattle.follow.proofs.Left.{blocksIn, OneFits, left}
@@ -78,7 +78,7 @@ records-room (x ∷ ks) k = ((width-small x (k .0), omega arith), records-room k
 
 room-lent : (limit n size : ℕ) (ks : List SignalEncoding) → KnownKinds ks → limit ≤ 65535 → n ≤ imageLimit → size ≤ imageLimit → Lent (roomFor limit n size ks)
 room-lent limit n size ks known l h k = record {
-  state = record { limit = omega arith; signals = omega arith; held = omega arith; work = omega arith; image = omega arith; blocks = omega arith; skipped = omega arith };
+  state = record { limit = omega arith; signals = omega arith; held = omega arith; work = omega arith; image = omega arith; blocks = omega arith; edition = omega arith; skipped = omega arith };
   records = records-room ks known;
   work = zero-slice (n * mostBytes) (omega arith);
   image = zero-slice size (omega arith);
@@ -110,16 +110,22 @@ module _ (limit : ℕ) (ks : List SignalEncoding) (o : Option (Block (List Entry
   size-small : imageSize ≤ imageLimit
   size-small = omega (arith, image-size x, v .total)
 
-  startable : Startable limit (length ks) lentRoom
+  -- any edition would do
+  abbrev chosen : Settings
+  chosen = settingsOf limit (length ks) 1
+
+  startable : StartableIn chosen lentRoom
   startable = record {
     low = v .low;
     high = v .high;
+    early = omega arith;
+    late = omega arith;
     table = omega (arith, length-replicate {A = ℕ} limit 0);
     few = v .signals;
-    count = sym (length-map ks recordFor);
+    all = sym (length-map ks recordFor);
     known = known-room ks (v .kinds);
     room = omega (arith, length-replicate {A = ℕ} imageSize 0);
-    small = omega (arith, length-replicate {A = ℕ} imageSize 0, size-small);
+    short = omega (arith, length-replicate {A = ℕ} imageSize 0, size-small);
   }
 
   one-fits : (o : Option (Block (List Entry))) → BlocksFit limit ks none (blocksIn o) → OneFits limit ks o
@@ -150,21 +156,21 @@ module _ (limit : ℕ) (ks : List SignalEncoding) (o : Option (Block (List Entry
       let s = startable in
       let w : length (imageCalls ks o) * mostBytes ≤ length (m .work) = omega (arith, length-replicate {A = ℕ} (length (imageCalls ks o) * mostBytes) 0) in
       let h : imageSize ≤ length (m .image) = omega (arith, length-replicate {A = ℕ} imageSize 0) in
-      let b = left limit (length ks) m o s (subst (λ (y : List SignalEncoding). OneFits limit y o) (sym e) (one-fits o (v .blocks)))
+      let b = left chosen m o s (subst (λ (y : List SignalEncoding). OneFits limit y o) (sym e) (one-fits o (v .blocks)))
       (subst (λ (y : List SignalEncoding). Fitting (imageCalls y o)) (sym e) fitting)
       (subst (λ (y : List SignalEncoding). headSize (length y) + length (blocksBytes y (blocksIn o)) ≤ length (m .image)) (sym e) h)
       (subst (λ (y : List SignalEncoding). length (imageCalls y o) * mostBytes ≤ length (m .work)) (sym e) w) in
       let calls : List Call = imageCalls (kindsOf (m .records)) o in
-      let r : Recorded limit (length ks) m calls (b .size) = record {
+      let r : Recorded chosen m calls (b .size) = record {
         lent = lent;
         fitting = subst (λ (y : List SignalEncoding). Fitting (imageCalls y o)) (sym e) fitting;
-        start = ap (λ (y : After). y .reply) (start-is limit (length ks) m s);
+        start = ap (λ (y : After). y .reply) (start-fits chosen m s);
         end = b .end;
       } in (
-        historyOf limit (length ks) m calls .last,
-        subst (λ (c : List ℕ). Tells ks (historyOf limit (length ks) m calls .last) c) (b .bytes ∙ ap (λ (y : List SignalEncoding). imageBytes (image limit y (blocksIn o))) e)
-            (subst (λ (y : List SignalEncoding). Tells y (historyOf limit (length ks) m calls .last) (leftBy limit (length ks) m calls (b .size))) e
-            (demand.left limit (length ks) m calls (b .size) r)),
+        historyOf chosen m calls .last,
+        subst (λ (c : List ℕ). Tells ks (historyOf chosen m calls .last) c) (b .bytes ∙ ap (λ (y : List SignalEncoding). imageBytes (image limit y (blocksIn o))) e)
+            (subst (λ (y : List SignalEncoding). Tells y (historyOf chosen m calls .last) (leftBy chosen m calls (b .size))) e
+            (demand.left chosen m calls (b .size) r)),
       )
 
 -- ---- any valid image: its first block, and the others joined to it

@@ -16,6 +16,7 @@ use Rattle.signal.specs.declared.kind.SignalEncoding.the-variants.{Absent}
 use Rattle.signal.specs.Kind.{widthOf}
 use Rattle.codec.specs.Valid.{Rising}
 use Rattle.recording.specs.declared.Encoder.{Encoder}
+use Rattle.recording.specs.declared.Settings.{Settings}
 use Rattle.recording.specs.declared.SignalRecord.{SignalRecord}
 use Rattle.recording.specs.Calls.{Call, finish, started, total, refusals, heard, Slice, Fitting}
 use Rattle.recording.specs.Memory.{Memory}
@@ -35,6 +36,7 @@ pub record StateFits (s : Encoder) : Type 0 where
   pub work : s .work < 2 ^ 64
   pub image : s .image < 2 ^ 32
   pub blocks : s .blocks < 2 ^ 32
+  pub edition : s .edition < 2 ^ 32
   pub skipped : s .skips .count < 2 ^ 32
 
 abbrev pub RecordFits : SignalRecord → Type 0
@@ -54,25 +56,26 @@ pub record Lent (m : Memory) : Type 0 where
   pub long : 8 * length (m .times) < 2 ^ 63
 
 -- "each on the state and buffers as the one before left them, nobody else writing there"
-abbrev pub ranFrom : (limit signals : ℕ) → Memory → List Call → Ran
-ranFrom limit signals m calls = run (startOf limit signals m .memory) calls
+abbrev pub ranFrom : Settings → Memory → List Call → Ran
+ranFrom settings m calls = run (startOf settings m .memory) calls
 
 -- "any list of a recording's calls (time; VCD, raw and real change; finish), refused and skipped ones included, from an accepted start to
 -- an accepted finish"
-pub record Recorded (limit signals : ℕ) (m : Memory) (calls : List Call) (size : ℕ) : Type 0 where
+pub record Recorded (settings : Settings) (m : Memory) (calls : List Call) (size : ℕ) : Type 0 where
   -- no condition of ours: what the types of state, records, slices and arguments can hold
   pub lent : Lent m
   pub fitting : Fitting calls
-  pub start : startOf limit signals m .reply ≡ started
-  pub end : step (ranFrom limit signals m calls .last) finish .reply ≡ total size
+  pub start : startOf settings m .reply ≡ started
+  pub end : step (ranFrom settings m calls .last) finish .reply ≡ total size
 
 -- "The image left: the image buffer's first total bytes"
-abbrev pub leftBy : (limit signals : ℕ) → Memory → List Call → (size : ℕ) → List ℕ
-leftBy limit signals m calls size = take size (step (ranFrom limit signals m calls .last) finish .memory .image)
+abbrev pub leftBy : Settings → Memory → List Call → (size : ℕ) → List ℕ
+leftBy settings m calls size = take size (step (ranFrom settings m calls .last) finish .memory .image)
 
--- "Fed: kinds, a list's calls and, of the answers, only which are refusals; nothing of the recorder's state"
-abbrev pub historyOf : (limit signals : ℕ) → Memory → List Call → Telling
-historyOf limit signals m calls = tellAll (kindsOf (m .records)) noHistory calls (refusals (ranFrom limit signals m calls .replies))
+-- "Fed: kinds, a list's calls and, of the answers, only which are refusals; nothing of the recorder's state"; "History under edition 2 is read
+-- with its rule": the edition is the one that was chosen at the start
+abbrev pub historyOf : Settings → Memory → List Call → Telling
+historyOf settings m calls = tellAll (kindsOf (m .records)) (settings .edition) noHistory calls (refusals (ranFrom settings m calls .replies))
 
 abbrev pub keptBytes : List SignalEncoding → History → (signal : ℕ) → List ℕ
 keptBytes ks h g = entriesBytes (getD ks g Absent) (classOf h g) (keptOf h g)
@@ -97,8 +100,8 @@ pub record LoadsAs (ks : List SignalEncoding) (h : History) (b : List ℕ) : Typ
 
 -- "left by a list of calls, or joined from accepted images": what such bytes tell, by kinds and history
 pub data Tells : List SignalEncoding → History → List ℕ → Type 0 where
-  left : (limit signals : ℕ) (m : Memory) (calls : List Call) (size : ℕ) → Recorded limit signals m calls size
-      → Tells (kindsOf (m .records)) (historyOf limit signals m calls .last) (leftBy limit signals m calls size)
+  left : (settings : Settings) (m : Memory) (calls : List Call) (size : ℕ) → Recorded settings m calls size
+      → Tells (kindsOf (m .records)) (historyOf settings m calls .last) (leftBy settings m calls size)
   join : (ks ls : List SignalEncoding) (h k : History) (a b out : List ℕ) (size : ℕ) → Tells ks h a → Tells ls k b
       → joinOf a b out .reply ≡ joined size → Tells ks (followed h k) (take size (joinOf a b out .out))
 
@@ -106,10 +109,10 @@ pub record Demand3 : Type 0 where
   -- "the image left loads as exactly the list's history in document 01"; "A joined image loads as one history after the other"
   pub loads : (ks : List SignalEncoding) (h : History) (b : List ℕ) → Tells ks h b → LoadsAs ks h b
   -- "The answers of times and changes that are no refusals, and the skipped count, are that history's too"
-  pub answers : (limit signals : ℕ) (m : Memory) (calls : List Call) (size : ℕ) → Recorded limit signals m calls size
-      → heard (ranFrom limit signals m calls .replies) ≡ historyOf limit signals m calls .answers
-  pub count : (limit signals : ℕ) (m : Memory) (calls : List Call) (size : ℕ) → Recorded limit signals m calls size
-      → step (ranFrom limit signals m calls .last) finish .memory .state .skips .count ≡ historyOf limit signals m calls .last .skips .count
+  pub answers : (settings : Settings) (m : Memory) (calls : List Call) (size : ℕ) → Recorded settings m calls size
+      → heard (ranFrom settings m calls .replies) ≡ historyOf settings m calls .answers
+  pub count : (settings : Settings) (m : Memory) (calls : List Call) (size : ℕ) → Recorded settings m calls size
+      → step (ranFrom settings m calls .last) finish .memory .state .skips .count ≡ historyOf settings m calls .last .skips .count
   -- the opener accepts exactly these: each by `opens` of what `loads` says, and no others
   pub accepted : (b : List ℕ) → Bytes b → openOf b ≡ true → (ks : List SignalEncoding) × (h : History) × Tells ks h b
 
@@ -122,6 +125,6 @@ callsIn m held done (c ∷ cs) =
 
 -- the used image bytes load as the history of these
 pub record PowerLoss : Type 0 where
-  pub used : (limit signals : ℕ) (m : Memory) (calls : List Call) → Fitting calls → startOf limit signals m .reply ≡ started
-      → let r = ranFrom limit signals m calls .last in
-      LoadsAs (kindsOf (m .records)) (historyOf limit signals m (callsIn (startOf limit signals m .memory) [] [] calls) .last) (take (r .state .image) (r .image))
+  pub used : (settings : Settings) (m : Memory) (calls : List Call) → Fitting calls → startOf settings m .reply ≡ started
+      → let r = ranFrom settings m calls .last in
+      LoadsAs (kindsOf (m .records)) (historyOf settings m (callsIn (startOf settings m .memory) [] [] calls) .last) (take (r .state .image) (r .image))

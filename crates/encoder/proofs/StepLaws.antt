@@ -4,6 +4,7 @@ use Prim.Native.Nat.{ℕ}
 use mathlib.Core.Path.{_≡_, refl, sym, subst}
 use mathlib.Core.List.{List, []}
 use lib.ListN.{length}
+use Rattle.recording.specs.declared.Settings.{Settings}
 use Rattle.recording.specs.declared.Encoder.{Encoder}
 use Rattle.recording.specs.declared.SignalRecord.{SignalRecord}
 use Rattle.recording.specs.Calls.{replyOf}
@@ -29,10 +30,10 @@ pub carried-out : (p : Plan) (s : Encoder) (rs rs′ : List SignalRecord) (t t�
     → after (replyOf (p .outcome .answer)) (memory (p .outcome .state) rs′ t′ w l) ≡ carried p (memory s rs t w i)
 carried-out p s rs rs′ t t′ w i j k l a b c d e = rw (b, d, e, c, a) refl
 
-pub started-out : (limit signals : ℕ) (s : Encoder) (rs rs′ : List SignalRecord) (t i j l : List ℕ)
-    → j ≡ beginIn limit signals (unknownKind rs) (length rs) (length t) i
-    → rs′ ≡ firstBy fresh (beginOf s limit signals (unknownKind rs) (length rs) (length t) (length i) .turns) rs
-    → l ≡ kindsPut (beginOf s limit signals (unknownKind rs) (length rs) (length t) (length i) .turns) rs j
-    → after (replyOf (beginOf s limit signals (unknownKind rs) (length rs) (length t) (length i) .outcome .answer)) (memory (beginOf s limit signals (unknownKind rs) (length rs) (length t) (length i) .outcome .state) rs′ t [] l)
-    ≡ startCarried limit signals (memory s rs t [] i)
-started-out limit signals s rs rs′ t i j l a b c = rw (b, c, a) refl
+pub started-out : (settings : Settings) (s : Encoder) (rs rs′ : List SignalRecord) (t i j l : List ℕ)
+    → j ≡ beginIn settings (unknownKind rs) (length rs) (length t) i
+    → rs′ ≡ firstBy fresh (beginOf s settings (unknownKind rs) (length rs) (length t) (length i) .turns) rs
+    → l ≡ kindsPut (beginOf s settings (unknownKind rs) (length rs) (length t) (length i) .turns) rs j
+    → after (replyOf (beginOf s settings (unknownKind rs) (length rs) (length t) (length i) .outcome .answer)) (memory (beginOf s settings (unknownKind rs) (length rs) (length t) (length i) .outcome .state) rs′ t [] l)
+    ≡ startCarried settings (memory s rs t [] i)
+started-out settings s rs rs′ t i j l a b c = rw (b, c, a) refl

@@ -21,7 +21,7 @@ pub fn start<'r, 't, 'i>(
     image: &'i mut [u8],
 ) -> Outcome
     ensures { λ r. ⌜ left r (now (records .exit)) (now (times .entry)) [] (now (image .exit))
-        ≡ startOf (settings .limit) (settings .signals) (memory state (now (records .entry)) (now (times .entry)) [] (now (image .entry))) ⌝ }
+        ≡ startOf settings (memory state (now (records .entry)) (now (times .entry)) [] (now (image .entry))) ⌝ }
 {
     let unknown = has_unknown_kind(&*records);
     let n = records.len();

@@ -10,7 +10,8 @@ ghost use mathlib.Core.Path.{_≡_};
 ghost use Rattle.recording.specs.Memory.{memory, left};
 ghost use Rattle.recording.specs.Step.{timeOf};
 
-// A time: a larger one than the last is taken, after a cut if the table is full; an equal one changes nothing; a smaller one starts a skip.
+// A time: a larger one than the last is taken, after a cut if the table is full; an equal one adds no time, and ends a skip in edition 2; a
+// smaller one starts a skip.
 pub fn time_change<'r, 't, 'w, 'i>(
     state: Encoder,
     records: &'r mut [SignalRecord],

@@ -21,7 +21,7 @@ pub fn start(
     image: &mut [u8],
 ) -> Outcome
     ensures { λ r. ⌜ left r (recordsOf (now (records .exit))) (now (times .entry)) [] (now (image .exit))
-        ≡ startOf (settings .limit) (settings .signals) (memory state (recordsOf (now (records .entry))) (now (times .entry)) [] (now (image .entry))) ⌝ }
+        ≡ startOf settings (memory state (recordsOf (now (records .entry))) (now (times .entry)) [] (now (image .entry))) ⌝ }
 {
     let unknown = has_unknown_kind(&*records);
     let n = records.len();

@@ -11,7 +11,8 @@ ghost use Rattle.recording.specs.Memory.{memory, left};
 ghost use Rattle.recording.specs.Step.{timeOf};
 ghost use Rattle.storage.specs.Storage.{recordsOf};
 
-// A time: a larger one than the last is taken, after a cut if the table is full; an equal one changes nothing; a smaller one starts a skip.
+// A time: a larger one than the last is taken, after a cut if the table is full; an equal one adds no time, and ends a skip in edition 2; a
+// smaller one starts a skip.
 pub fn time_change(
     state: Encoder,
     records: &mut [u64],

@@ -16,6 +16,7 @@ use Rattle.signal.specs.declared.kind.SignalEncoding.the-variants.{BitVector, R
 use Rattle.signal.specs.Kind.{absent}
 use Rattle.signal.specs.Content.{Content, Given, vcd, raw, real, accept, decode}
 use Rattle.signal.proofs.DecodeLaws.{accepted}
+use Rattle.recording.specs.declared.Settings.{Settings}
 use Rattle.recording.specs.Calls.{Call, time, change, finish, ValueFits, CallFits, Fitting, recorded, taken, say, total, isRefusal, Way, above, equal, below, wayOf}
 use Rattle.recording.specs.declared.ProbeSkip.{ProbeSkip}
 use Rattle.recording.specs.Memory.{Memory, After, after, recordAt, guarded, refused}
@@ -58,57 +59,57 @@ below-count ks g h = go (decLt g (length ks))
         let e : absent (getD ks g Absent) ≡ true = ap absent (List·getD-eq-default ks Absent l) in
         let z : _≡_ {A = ℕ} 0 1 = cc in absurd (omega arith)
 
-module _ (limit : ℕ) (ks : List SignalEncoding) where
-  opened-is : (m : Memory) (p : Model) (e : After) → Rep limit ks m p → p .closed ≡ false → guarded (openTests m) (refused m) e ≡ e
-  opened-is m p e r up = open-is limit ks m p (refused m) e r ∙ pick-false (m .state .closed) _ _ (r .closed ∙ up)
+module _ (settings : Settings) (ks : List SignalEncoding) where
+  opened-is : (m : Memory) (p : Model) (e : After) → Rep settings ks m p → p .closed ≡ false → guarded (openTests m) (refused m) e ≡ e
+  opened-is m p e r up = open-is settings ks m p (refused m) e r ∙ pick-false (m .state .closed) _ _ (r .closed ∙ up)
 
   -- the room for a cut, from the size of the image after it
-  cut-room : (m : Memory) (p : Model) → Rep limit ks m p → sizeFor ks (p .blocks ++ p .now ∷ []) ≤ length (m .image) → cutOf m ≡ cuts (openBytes ks p)
+  cut-room : (m : Memory) (p : Model) → Rep settings ks m p → sizeFor ks (p .blocks ++ p .now ∷ []) ≤ length (m .image) → cutOf m ≡ cuts (openBytes ks p)
   cut-room m p r h =
       let s = size-snoc ks (p .blocks) (p .now) in
       let q : length (openBytes ks p) ≤ length (m .image) - m .state .image = omega (arith, s, r .image .long, h) in
-      cut-is limit ks m p r ∙ pick-false (ltb (length (m .image) - m .state .image) (length (openBytes ks p))) _ _ (le-ltb (length (m .image) - m .state .image) (length (openBytes ks p)) q)
+      cut-is settings ks m p r ∙ pick-false (ltb (length (m .image) - m .state .image) (length (openBytes ks p))) _ _ (le-ltb (length (m .image) - m .state .image) (length (openBytes ks p)) q)
 
-  time-lives : (m : Memory) (p : Model) (t : ℕ) (way : Way) → Rep limit ks m p → sizeFor ks (modelTime limit p t way .blocks) ≤ length (m .image) → Lives m (timeBy m t way)
+  time-lives : (m : Memory) (p : Model) (t : ℕ) (way : Way) → Rep settings ks m p → sizeFor ks (modelTime settings p t way .blocks) ≤ length (m .image) → Lives m (timeBy m t way)
   unfolding modelTime
   time-lives m p t equal r h = record { live = refl; image = refl; work = refl; used = omega arith }
   time-lives m p t below r h = record { live = refl; image = refl; work = refl; used = omega arith }
-  time-lives m p t above r h = go (eqb (length (p .now .times)) limit) refl h
+  time-lives m p t above r h = go (eqb (length (p .now .times)) (settings .limit)) refl h
     where
-      go : (b : Bool) → eqb (length (p .now .times)) limit ≡ b → sizeFor ks (pick b (cut p) p .blocks) ≤ length (m .image)
+      go : (b : Bool) → eqb (length (p .now .times)) (settings .limit) ≡ b → sizeFor ks (pick b (cut p) p .blocks) ≤ length (m .image)
           → Lives m (pick (eqb (m .state .held) (m .state .limit)) (timeCut m t (cutOf m)) (after (say taken) (step.timed m t)))
       go true e k =
-          let z = eqb-true (length (p .now .times)) limit e in
+          let z = eqb-true (length (p .now .times)) (settings .limit) e in
           let q : eqb (m .state .held) (m .state .limit) ≡ true = eq-eqb (m .state .held) (m .state .limit) (r .times .long ∙ z ∙ sym (r .bound)) in
           let k' : sizeFor ks (p .blocks ++ p .now ∷ []) ≤ length (m .image) = unfold cut in k in
           subst (λ (x : Bool). Lives m (pick x (timeCut m t (cutOf m)) (after (say taken) (step.timed m t)))) (sym q)
           (subst (λ (x : Cut). Lives m (timeCut m t x)) (sym (cut-room m p r k'))
           (record { live = refl; image = simp length-sets; work = refl; used = omega arith }))
       go false e k =
-          let z = eqb-false (length (p .now .times)) limit e in
+          let z = eqb-false (length (p .now .times)) (settings .limit) e in
           let z' : m .state .held ≡ m .state .limit → ⊥ = λ x. z (sym (r .times .long) ∙ x ∙ r .bound) in
           subst (λ (x : Bool). Lives m (pick x (timeCut m t (cutOf m)) (after (say taken) (step.timed m t)))) (sym (ne-eqb (m .state .held) (m .state .limit) z'))
           (record { live = refl; image = refl; work = refl; used = omega arith })
 
-  change-is : (m : Memory) (p : Model) (g c : ℕ) (v : Given) (a : Content) → Rep limit ks m p → p .closed ≡ false
+  change-is : (m : Memory) (p : Model) (g c : ℕ) (v : Given) (a : Content) → Rep settings ks m p → p .closed ≡ false
       → p .skips .on ≡ false → 0 < length (p .now .times) → g < length ks → absent (getD ks g Absent) ≡ false → decode (getD ks g Absent) v ≡ accept a c
-      → m .state .work + (8 + length (bytesIn limit ks m g a)) ≤ length (m .work)
-      → changeOf m g v ≡ after (say recorded) (recordedIn m g (bytesIn limit ks m g a) c)
+      → m .state .work + (8 + length (bytesIn settings ks m g a)) ≤ length (m .work)
+      → changeOf m g v ≡ after (say recorded) (recordedIn m g (bytesIn settings ks m g a) c)
   unfolding changeOf
   change-is m p g c v a r up s k h x d f =
       let e = r .recs .is g h in
       let t0 : m .state .held ≡ 0 → ⊥ = λ z. omega (arith, r .times .long) in
-      let b : List ℕ = bytesIn limit ks m g a in
+      let b : List ℕ = bytesIn settings ks m g a in
       opened-is m p _ r up
       ∙ pick-false (eqb (m .state .held) 0) _ _ (ne-eqb (m .state .held) 0 t0)
       ∙ pick-false (m .state .skips .on) _ _ (ap (λ (k : ProbeSkip). k .on) (r .skips) ∙ s)
       ∙ pick-false (leb (m .state .signals) g || absent (recordAt m g .kind)) _ _
       (or-false (leb (m .state .signals) g) (absent (recordAt m g .kind)) (lt-leb (m .state .signals) g (omega (arith, r .signals))) (ap absent (e .kind) ∙ x))
       ∙ ap (changeBy m g) (ap (λ (n : SignalEncoding). decode n v) (e .kind) ∙ d)
-      ∙ room-is limit ks m p g (length b) (refused m) (after (say recorded) (recordedIn m g b c)) h r
+      ∙ room-is settings ks m p g (length b) (refused m) (after (say recorded) (recordedIn m g b c)) h r
       ∙ pick-false (ltb (length (m .work)) (m .state .work + (8 + length b))) _ _ (le-ltb (length (m .work)) (m .state .work + (8 + length b)) f)
 
-  change-lives : (m : Memory) (p : Model) (g : ℕ) (v : Given) → Rep limit ks m p → p .closed ≡ false → ValueFits v → Proper limit ks p (change g v)
+  change-lives : (m : Memory) (p : Model) (g : ℕ) (v : Given) → Rep settings ks m p → p .closed ≡ false → ValueFits v → Proper settings ks p (change g v)
       → m .state .work + mostBytes ≤ length (m .work) → Lives m (changeOf m g v)
   change-lives m p g v r up fit q f =
       let a : Content = q .2 .0 in
@@ -117,11 +118,11 @@ module _ (limit : ℕ) (ks : List SignalEncoding) where
       let x = present (getD ks g Absent) v a c d in
       let h = below-count ks g x in
       let y = accepted (getD ks g Absent) v a c (value-given v fit) d in
-      let l : 8 + length (bytesIn limit ks m g a) ≤ mostBytes = bytes-few limit ks m p g a h (y .fits) r in
+      let l : 8 + length (bytesIn settings ks m g a) ≤ mostBytes = bytes-few settings ks m p g a h (y .fits) r in
       subst (Lives m) (sym (change-is m p g c v a r up (q .0) (q .1) h x d (omega (arith, l, f))))
       (record { live = refl; image = refl; work = simp length-sets; used = omega (arith, l) })
 
-  finish-closes : (m : Memory) (p : Model) → Rep limit ks m p → sizeFor ks (pick (noTime (p .now .times)) p (cut p) .blocks) ≤ length (m .image)
+  finish-closes : (m : Memory) (p : Model) → Rep settings ks m p → sizeFor ks (pick (noTime (p .now .times)) p (cut p) .blocks) ≤ length (m .image)
       → (n : ℕ) × (pick (eqb (m .state .held) 0) (closing m) (finishCut m (cutOf m)) .reply ≡ total n)
   finish-closes m p r h = go (p .now .times) refl h
     where
@@ -138,14 +139,14 @@ module _ (limit : ℕ) (ks : List SignalEncoding) where
           )
 
   -- a finish is accepted where the image has room for what it leaves
-  pub finish-accepted : (m : Memory) (p : Model) → Rep limit ks m p → p .closed ≡ false → sizeFor ks (modelStep ks limit p finish false .blocks) ≤ length (m .image)
+  pub finish-accepted : (m : Memory) (p : Model) → Rep settings ks m p → p .closed ≡ false → sizeFor ks (modelStep ks settings p finish false .blocks) ≤ length (m .image)
       → (n : ℕ) × (step m finish .reply ≡ total n)
   unfolding step finishOf modelStep
   finish-accepted m p r up h =
       let f = finish-closes m p r h in
       (f .0, ap (λ (x : After). x .reply) (opened-is m p (pick (eqb (m .state .held) 0) (closing m) (finishCut m (cutOf m))) r up) ∙ f .1)
 
-  finish-lives : (m : Memory) (p : Model) → Rep limit ks m p → sizeFor ks (pick (noTime (p .now .times)) p (cut p) .blocks) ≤ length (m .image)
+  finish-lives : (m : Memory) (p : Model) → Rep settings ks m p → sizeFor ks (pick (noTime (p .now .times)) p (cut p) .blocks) ≤ length (m .image)
       → Lives m (pick (eqb (m .state .held) 0) (closing m) (finishCut m (cutOf m)))
   finish-lives m p r h = go (p .now .times) refl h
     where
@@ -162,8 +163,8 @@ module _ (limit : ℕ) (ks : List SignalEncoding) where
           (subst (λ (x : Cut). Lives m (finishCut m x)) (sym (cut-room m p r k'))
           (record { live = refl; image = simp length-sets; work = refl; used = omega arith }))
 
-  pub step-lives : (m : Memory) (p : Model) (c : Call) → CallFits c → Rep limit ks m p → p .closed ≡ false → Proper limit ks p c
-      → sizeFor ks (modelStep ks limit p c false .blocks) ≤ length (m .image) → m .state .work + mostBytes ≤ length (m .work) → Lives m (step m c)
+  pub step-lives : (m : Memory) (p : Model) (c : Call) → CallFits c → Rep settings ks m p → p .closed ≡ false → Proper settings ks p c
+      → sizeFor ks (modelStep ks settings p c false .blocks) ≤ length (m .image) → m .state .work + mostBytes ≤ length (m .work) → Lives m (step m c)
   unfolding step modelStep timeOf finishOf
   step-lives m p (time t) fit r up q h f =
       subst (Lives m) (sym (opened-is m p (timeBy m t (wayOf (take (m .state .held) (m .times)) t)) r up))
@@ -172,16 +173,16 @@ module _ (limit : ℕ) (ks : List SignalEncoding) where
   step-lives m p finish fit r up q h f = subst (Lives m) (sym (opened-is m p _ r up)) (finish-lives m p r h)
 
   -- a list that the model can take is taken whole, given room
-  pub run-accepts : (cs : List Call) (m : Memory) (p : Model) → Fitting cs → Rep limit ks m p → ProperRun limit ks p cs
-      → sizeFor ks (modelRun limit ks p cs .blocks) ≤ length (m .image) → m .state .work + length cs * mostBytes ≤ length (m .work)
-      → Rep limit ks (run m cs .last) (modelRun limit ks p cs) × (length (run m cs .last .image) ≡ length (m .image))
+  pub run-accepts : (cs : List Call) (m : Memory) (p : Model) → Fitting cs → Rep settings ks m p → ProperRun settings ks p cs
+      → sizeFor ks (modelRun settings ks p cs .blocks) ≤ length (m .image) → m .state .work + length cs * mostBytes ≤ length (m .work)
+      → Rep settings ks (run m cs .last) (modelRun settings ks p cs) × (length (run m cs .last .image) ≡ length (m .image))
   unfolding run modelRun Fitting
   run-accepts [] m p fit r q h f = (r, refl)
   run-accepts (c ∷ cs) m p fit r q h f =
-      let p' : Model = modelStep ks limit p c false in
-      let s = run-grows ks limit cs p' in
+      let p' : Model = modelStep ks settings p c false in
+      let s = run-grows ks settings cs p' in
       let n : suc (length cs) * mostBytes ≡ length cs * mostBytes + mostBytes = omega arith in
       let l = step-lives m p c (fit .0) r (q .0) (q .1) (omega (arith, s, h)) (omega (arith, n, f)) in
-      let r' = subst (λ (b : Bool). Rep limit ks (step m c .memory) (modelStep ks limit p c b)) (l .live) (step-good limit ks m p c (fit .0) r .rep) in
+      let r' = subst (λ (b : Bool). Rep settings ks (step m c .memory) (modelStep ks settings p c b)) (l .live) (step-good settings ks m p c (fit .0) r .rep) in
       let ih = run-accepts cs (step m c .memory) p' (fit .1) r' (q .2) (rw (l .image) h) (rw (l .work) (omega (arith, n, f, l .used))) in
       (ih .0, ih .1 ∙ l .image)

@@ -11,6 +11,7 @@ use Rattle.lists.specs.Choice.{pick}
 use Rattle.signal.specs.declared.kind.SignalEncoding.{SignalEncoding}
 use Rattle.signal.specs.declared.kind.SignalEncoding.the-variants.{Absent}
 use Rattle.signal.specs.Content.{Decoded, refuse, accept, decode}
+use Rattle.recording.specs.declared.Settings.{Settings}
 use Rattle.recording.specs.Calls.{Call, time, change, finish, Way, above, equal, below, wayOf}
 use Rattle.model.specs.Model.{Chunk, Model, cut, modelTime, modelChange, noTime, modelStep}
 use Rattle.model.proofs.Rebuild.{modelRun}
@@ -37,11 +38,11 @@ unfolding cut
 grown-last p true = kept refl
 grown-last p false = ended refl
 
-grown-time : (limit : ℕ) (p : Model) (t : ℕ) (way : Way) → Grown p (modelTime limit p t way .blocks)
+grown-time : (settings : Settings) (p : Model) (t : ℕ) (way : Way) → Grown p (modelTime settings p t way .blocks)
 unfolding modelTime
-grown-time limit p t above = grown-cut p (eqb (length (p .now .times)) limit)
-grown-time limit p t equal = kept refl
-grown-time limit p t below = kept refl
+grown-time settings p t above = grown-cut p (eqb (length (p .now .times)) (settings .limit))
+grown-time settings p t equal = kept refl
+grown-time settings p t below = kept refl
 
 grown-change : (p : Model) (g : ℕ) (b : Bool) (d : Decoded) → Grown p (modelChange p g b d .blocks)
 unfolding modelChange
@@ -49,12 +50,12 @@ grown-change p g true d = kept refl
 grown-change p g false (refuse n) = kept refl
 grown-change p g false (accept a c) = kept refl
 
-pub step-grown : (ks : List SignalEncoding) (limit : ℕ) (p : Model) (c : Call) (refused : Bool) → Grown p (modelStep ks limit p c refused .blocks)
+pub step-grown : (ks : List SignalEncoding) (settings : Settings) (p : Model) (c : Call) (refused : Bool) → Grown p (modelStep ks settings p c refused .blocks)
 unfolding modelStep
-step-grown ks limit p c true = kept refl
-step-grown ks limit p (time t) false = grown-time limit p t (wayOf (p .now .times) t)
-step-grown ks limit p (change g v) false = grown-change p g (p .skips .on) (decode (getD ks g Absent) v)
-step-grown ks limit p finish false = grown-last p (noTime (p .now .times))
+step-grown ks settings p c true = kept refl
+step-grown ks settings p (time t) false = grown-time settings p t (wayOf (p .now .times) t)
+step-grown ks settings p (change g v) false = grown-change p g (p .skips .on) (decode (getD ks g Absent) v)
+step-grown ks settings p finish false = grown-last p (noTime (p .now .times))
 
 record Longer (bs cs : List Chunk) : Type 0 where
   ext : List Chunk
@@ -66,22 +67,22 @@ no-longer bs = record { ext = []; is = sym (append-nil bs) }
 longer-both : (xs bs cs : List Chunk) → Longer xs bs → Longer bs cs → Longer xs cs
 longer-both xs bs cs p q = record { ext = p .ext ++ q .ext; is = q .is ∙ rw (p .is) (append-assoc xs (p .ext) (q .ext)) }
 
-longer-step : (ks : List SignalEncoding) (limit : ℕ) (p : Model) (c : Call) → Longer (p .blocks) (modelStep ks limit p c false .blocks)
-longer-step ks limit p c = go (step-grown ks limit p c false)
+longer-step : (ks : List SignalEncoding) (settings : Settings) (p : Model) (c : Call) → Longer (p .blocks) (modelStep ks settings p c false .blocks)
+longer-step ks settings p c = go (step-grown ks settings p c false)
   where
-    go : Grown p (modelStep ks limit p c false .blocks) → Longer (p .blocks) (modelStep ks limit p c false .blocks)
+    go : Grown p (modelStep ks settings p c false .blocks) → Longer (p .blocks) (modelStep ks settings p c false .blocks)
     go (kept e) = record { ext = []; is = e ∙ sym (append-nil (p .blocks)) }
     go (ended e) = record { ext = p .now ∷ []; is = e }
 
-longer-run : (ks : List SignalEncoding) (limit : ℕ) (cs : List Call) (p : Model) → Longer (p .blocks) (modelRun limit ks p cs .blocks)
+longer-run : (ks : List SignalEncoding) (settings : Settings) (cs : List Call) (p : Model) → Longer (p .blocks) (modelRun settings ks p cs .blocks)
 unfolding modelRun
-longer-run ks limit [] p = no-longer (p .blocks)
-longer-run ks limit (c ∷ cs) p =
-    longer-both (p .blocks) (modelStep ks limit p c false .blocks) (modelRun limit ks (modelStep ks limit p c false) cs .blocks)
-    (longer-step ks limit p c) (longer-run ks limit cs (modelStep ks limit p c false))
+longer-run ks settings [] p = no-longer (p .blocks)
+longer-run ks settings (c ∷ cs) p =
+    longer-both (p .blocks) (modelStep ks settings p c false .blocks) (modelRun settings ks (modelStep ks settings p c false) cs .blocks)
+    (longer-step ks settings p c) (longer-run ks settings cs (modelStep ks settings p c false))
 
-pub run-grows : (ks : List SignalEncoding) (limit : ℕ) (cs : List Call) (p : Model) → sizeFor ks (p .blocks) ≤ sizeFor ks (modelRun limit ks p cs .blocks)
-run-grows ks limit cs p = let g = longer-run ks limit cs p in rw (g .is) (size-grows ks (g .ext) (p .blocks))
+pub run-grows : (ks : List SignalEncoding) (settings : Settings) (cs : List Call) (p : Model) → sizeFor ks (p .blocks) ≤ sizeFor ks (modelRun settings ks p cs .blocks)
+run-grows ks settings cs p = let g = longer-run ks settings cs p in rw (g .is) (size-grows ks (g .ext) (p .blocks))
 
-pub step-grows : (ks : List SignalEncoding) (limit : ℕ) (p : Model) (c : Call) → sizeFor ks (p .blocks) ≤ sizeFor ks (modelStep ks limit p c false .blocks)
-step-grows ks limit p c = let g = longer-step ks limit p c in rw (g .is) (size-grows ks (g .ext) (p .blocks))
+pub step-grows : (ks : List SignalEncoding) (settings : Settings) (p : Model) (c : Call) → sizeFor ks (p .blocks) ≤ sizeFor ks (modelStep ks settings p c false .blocks)
+step-grows ks settings p c = let g = longer-step ks settings p c in rw (g .is) (size-grows ks (g .ext) (p .blocks))

@@ -19,8 +19,9 @@ use Rattle.signal.specs.Kind.{knownKind}
 use Rattle.signal.specs.Content.{Given, vcd, raw, real, refuse, accept, vectorSays, decode}
 use Rattle.image.specs.Head.{imageLimit}
 use Rattle.codec.proofs.ImageFits.{blocks-count}
+use Rattle.recording.specs.declared.Settings.{Settings}
 use Rattle.recording.specs.Memory.{Memory, recordAt, guarded}
-use Rattle.recording.specs.Refusals.{outside, stateTests, openTests, roomTests}
+use Rattle.recording.specs.Refusals.{outside, noEdition, stateTests, openTests, roomTests}
 use Rattle.model.specs.Model.{Model}
 use Rattle.follow.proofs.ImageRep.{storedAll, length-image}
 use Rattle.follow.proofs.Rep.{Rep}
@@ -44,9 +45,9 @@ and-no u h f = go (ℕ-discrete h 0)
     go (yes e) = rw (le-ltb 0 u (omega (arith, f e))) refl
     go (no n) = rw (ne-eqb h 0 n) (both (ltb 0 u))
 
-module _ (limit : ℕ) (ks : List SignalEncoding) where
-  -- of 2 and the first group of 10 only 2 can refuses a call
-  pub open-is : {A : Type 0} (m : Memory) (p : Model) (f : ℕ → A) (e : A) → Rep limit ks m p → guarded (openTests m) f e ≡ pick (m .state .closed) (f 2) e
+module _ (settings : Settings) (ks : List SignalEncoding) where
+  -- of 2 and the first group of 10 only 2 can refuse a call
+  pub open-is : {A : Type 0} (m : Memory) (p : Model) (f : ℕ → A) (e : A) → Rep settings ks m p → guarded (openTests m) f e ≡ pick (m .state .closed) (f 2) e
   unfolding stateTests
   open-is m p f e r =
       let s = m .state in
@@ -58,6 +59,8 @@ module _ (limit : ℕ) (ks : List SignalEncoding) where
       ap (pick (s .closed) (f 2))
       (pick-false (outside (s .limit)) _ _
       (or-false (ltb (s .limit) 2) (ltb 65535 (s .limit)) (le-ltb (s .limit) 2 (omega (arith, r .low, r .bound))) (le-ltb 65535 (s .limit) (omega (arith, r .high, r .bound))))
+      ∙ pick-false (noEdition (s .edition)) _ _
+      (or-false (ltb (s .edition) 1) (ltb 2 (s .edition)) (le-ltb (s .edition) 1 (omega (arith, r .early, r .edition))) (le-ltb 2 (s .edition) (omega (arith, r .late, r .edition))))
       ∙ pick-false (ltb (s .limit) (s .held)) _ _ (le-ltb (s .limit) (s .held) (omega (arith, r .times .inside, r .bound)))
       ∙ pick-false (ltb (length (m .times)) (s .limit)) _ _ (le-ltb (length (m .times)) (s .limit) (omega (arith, r .times .room, r .bound)))
       ∙ pick-false (ltb (length (m .work)) (s .work) || ltb (length (m .image)) (s .image)) _ _
@@ -69,7 +72,7 @@ module _ (limit : ℕ) (ks : List SignalEncoding) where
       ∙ pick-false (ltb 0 (s .work) && eqb (s .held) 0) _ _ (and-no (s .work) (s .held) z))
 
   -- of the second group of 10 and 7 only 7
-  pub room-is : {A : Type 0} (m : Memory) (p : Model) (g n : ℕ) (f : ℕ → A) (e : A) → g < length ks → Rep limit ks m p
+  pub room-is : {A : Type 0} (m : Memory) (p : Model) (g n : ℕ) (f : ℕ → A) (e : A) → g < length ks → Rep settings ks m p
       → guarded (roomTests (m .state) (recordAt m g) (length (m .work)) n) f e ≡ pick (ltb (length (m .work)) (m .state .work + (8 + n))) (f 7) e
   room-is m p g n f e h r =
       let q = r .recs .is g h in

@@ -19,6 +19,7 @@ use Rattle.stream.specs.Entries.{entry}
 use Rattle.image.specs.Block.{block, blockBytes}
 use Rattle.image.specs.Head.{imageLimit}
 use Rattle.codec.specs.Ends.{lastIndex}
+use Rattle.recording.specs.declared.Settings.{Settings}
 use Rattle.recording.specs.Work.{itemsOf}
 use Rattle.recording.specs.Memory.{Memory, recordAt}
 use Rattle.recording.specs.State.{skipEnded}
@@ -36,20 +37,23 @@ use Rattle.follow.proofs.RecsRep.{RecsRep, recs-change, recs-cut}
 use Rattle.follow.proofs.WorkRep.{WorkRep, work-add, work-cut, block-is}
 use Rattle.follow.proofs.ImageRep.{ImageRep, chunkBytes, image-cut}
 
-pub record Rep (limit : ℕ) (ks : List SignalEncoding) (m : Memory) (p : Model) : Type 0 where
-  pub low : 2 ≤ limit
-  pub high : limit ≤ 65535
+pub record Rep (settings : Settings) (ks : List SignalEncoding) (m : Memory) (p : Model) : Type 0 where
+  pub low : 2 ≤ settings .limit
+  pub high : settings .limit ≤ 65535
+  pub early : 1 ≤ settings .edition
+  pub late : settings .edition ≤ 2
   pub few : length ks ≤ 65536
   pub known : (i : ℕ) → i < length ks → knownKind (getD ks i Absent) ≡ true
   pub small : length (m .image) ≤ imageLimit
-  pub bound : m .state .limit ≡ limit
+  pub bound : m .state .limit ≡ settings .limit
+  pub edition : m .state .edition ≡ settings .edition
   pub signals : m .state .signals ≡ length ks
   pub closed : m .state .closed ≡ p .closed
   pub skips : m .state .skips ≡ p .skips
-  pub times : TimesRep limit (m .state .held) (m .times) (p .now .times)
+  pub times : TimesRep (settings .limit) (m .state .held) (m .times) (p .now .times)
   pub recs : RecsRep ks (m .records) (seenOf (p .blocks)) (p .now .changes)
   pub work : WorkRep ks (m .state .work) (m .work) (p .now .changes)
-  pub image : ImageRep limit ks (m .state .image) (m .state .blocks) (m .image) (p .blocks)
+  pub image : ImageRep (settings .limit) ks (m .state .image) (m .state .blocks) (m .image) (p .blocks)
   pub inside : (i : ℕ) → lastIndex 0 (listOf i (p .now .changes)) ≤ length (p .now .times) - 1
   pub start : length (p .now .times) ≡ 0 → m .state .work ≡ 0
 
@@ -57,9 +61,9 @@ pub record Rep (limit : ℕ) (ks : List SignalEncoding) (m : Memory) (p : Model)
 abbrev pub openBytes : List SignalEncoding → Model → List ℕ
 openBytes ks p = chunkBytes ks (p .blocks) (p .now)
 
-module _ (limit : ℕ) (ks : List SignalEncoding) where
+module _ (settings : Settings) (ks : List SignalEncoding) where
   -- a cut finds the work in order, and only fullness refuses it
-  pub cut-is : (m : Memory) (p : Model) → Rep limit ks m p
+  pub cut-is : (m : Memory) (p : Model) → Rep settings ks m p
       → cutOf m ≡ pick (ltb (length (m .image) - m .state .image) (length (openBytes ks p))) (noCut 8) (cuts (openBytes ks p))
   unfolding cutOf
   cut-is m p r =
@@ -73,39 +77,45 @@ module _ (limit : ℕ) (ks : List SignalEncoding) where
       ∙ ap (cutItems m) e
       ∙ ap (λ x. pick (ltb (length (m .image) - m .state .image) (length x)) (noCut 8) (cuts x)) z
 
-  pub rep-cut : (m : Memory) (p : Model) → 0 < m .state .held → m .state .image + length (openBytes ks p) ≤ length (m .image) → Rep limit ks m p
-      → Rep limit ks (cutIn m (openBytes ks p)) (cut p)
+  pub rep-cut : (m : Memory) (p : Model) → 0 < m .state .held → m .state .image + length (openBytes ks p) ≤ length (m .image) → Rep settings ks m p
+      → Rep settings ks (cutIn m (openBytes ks p)) (cut p)
   unfolding cut listOf lastIndex
   rep-cut m p h f r = record {
     low = r .low;
     high = r .high;
+    early = r .early;
+    late = r .late;
     few = r .few;
     known = r .known;
     small = rw (length-sets, length-sets) (r .small);
     bound = r .bound;
+    edition = r .edition;
     signals = r .signals;
     closed = r .closed;
     skips = r .skips;
-    times = times-cut limit (m .state .held) (m .times) (p .now .times) h (r .times);
+    times = times-cut (settings .limit) (m .state .held) (m .times) (p .now .times) h (r .times);
     recs = rw (seen-snoc (p .blocks) (p .now)) (recs-cut ks (m .records) (seenOf (p .blocks)) (p .now .changes) (r .recs));
     work = work-cut ks (m .work);
-    image = image-cut limit ks (m .state .image) (m .state .blocks) (m .image) (p .blocks) (p .now) f (r .image);
+    image = image-cut (settings .limit) ks (m .state .image) (m .state .blocks) (m .image) (p .blocks) (p .now) f (r .image);
     inside = λ i. omega arith;
     start = λ e. refl;
   }
 
-  pub rep-timed : (m : Memory) (p : Model) (t : ℕ) → m .state .held < limit → Rep limit ks m p → Rep limit ks (step.timed m t) (timed p t)
+  pub rep-timed : (m : Memory) (p : Model) (t : ℕ) → m .state .held < settings .limit → Rep settings ks m p → Rep settings ks (step.timed m t) (timed p t)
   rep-timed m p t h r = record {
     low = r .low;
     high = r .high;
+    early = r .early;
+    late = r .late;
     few = r .few;
     known = r .known;
     small = r .small;
     bound = r .bound;
+    edition = r .edition;
     signals = r .signals;
     closed = r .closed;
     skips = ap skipEnded (r .skips);
-    times = times-more limit (m .state .held) t (m .times) (p .now .times) h (r .times);
+    times = times-more (settings .limit) (m .state .held) t (m .times) (p .now .times) h (r .times);
     recs = r .recs;
     work = r .work;
     image = r .image;
@@ -117,7 +127,7 @@ module _ (limit : ℕ) (ks : List SignalEncoding) where
   abbrev pub bytesIn : Memory → (signal : ℕ) → Content → List ℕ
   bytesIn m g a = changeBytes (recordAt m g .kind) (m .state .held - 1 - recordAt m g .index) a
 
-  pub bytes-are : (m : Memory) (p : Model) (g : ℕ) (a : Content) → g < length ks → Rep limit ks m p
+  pub bytes-are : (m : Memory) (p : Model) (g : ℕ) (a : Content) → g < length ks → Rep settings ks m p
       → bytesIn m g a ≡ changeBytes (getD ks g Absent) (length (p .now .times) - 1 - lastIndex 0 (listOf g (p .now .changes))) a
   bytes-are m p g a h r =
       let e = r .recs .is g h in
@@ -126,14 +136,14 @@ module _ (limit : ℕ) (ks : List SignalEncoding) where
       ∙ ap (λ i. changeBytes (getD ks g Absent) (m .state .held - 1 - i) a) (e .index)
       ∙ ap (λ j. changeBytes (getD ks g Absent) (j - lastIndex 0 (listOf g (p .now .changes))) a) n
 
-  pub bytes-few : (m : Memory) (p : Model) (g : ℕ) (a : Content) → g < length ks → ContentFits (getD ks g Absent) a → Rep limit ks m p
+  pub bytes-few : (m : Memory) (p : Model) (g : ℕ) (a : Content) → g < length ks → ContentFits (getD ks g Absent) a → Rep settings ks m p
       → 8 + length (bytesIn m g a) ≤ mostBytes
   bytes-few m p g a h f r =
       rw (bytes-are m p g a h r) (change-few (getD ks g Absent) (length (p .now .times) - 1 - lastIndex 0 (listOf g (p .now .changes))) a (r .known g h) f)
 
   pub rep-recorded : (m : Memory) (p : Model) (g c : ℕ) (a : Content) → g < length ks → absent (getD ks g Absent) ≡ false → 0 < m .state .held
-      → ContentFits (getD ks g Absent) a → c ≤ 2 → m .state .work + (8 + length (bytesIn m g a)) ≤ length (m .work) → Rep limit ks m p
-      → Rep limit ks (recordedIn m g (bytesIn m g a) c) (modelChange p g false (accept a c))
+      → ContentFits (getD ks g Absent) a → c ≤ 2 → m .state .work + (8 + length (bytesIn m g a)) ≤ length (m .work) → Rep settings ks m p
+      → Rep settings ks (recordedIn m g (bytesIn m g a) c) (modelChange p g false (accept a c))
   unfolding modelChange
   rep-recorded m p g c a h x k d two f r =
       let n : m .state .held - 1 ≡ length (p .now .times) - 1 = omega (arith, r .times .long) in
@@ -142,10 +152,13 @@ module _ (limit : ℕ) (ks : List SignalEncoding) where
       record {
         low = r .low;
         high = r .high;
+        early = r .early;
+        late = r .late;
         few = r .few;
         known = r .known;
         small = r .small;
         bound = r .bound;
+        edition = r .edition;
         signals = r .signals;
         closed = r .closed;
         skips = r .skips;

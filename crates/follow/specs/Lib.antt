@@ -1,4 +1,3 @@
 pub mod Records
 pub mod Marked
 pub mod Answers
-pub mod Start

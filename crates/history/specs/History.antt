@@ -1,6 +1,6 @@
--- Document 01, 'History': what a list of calls says. Fed are kinds, calls and, of the answers, only which are refusals; nothing of the
--- recorder's state. What becomes of the skip is written here anew; its type is the recorder's. How it is counted (`counted`) and how a time
--- stands to the last one (`wayOf`) are said once, in recording/specs/Calls.antt.
+-- Document 01, 'History': what a list of calls says. Fed are kinds, the edition that was chosen at the start, calls and, of the answers, only
+-- which are refusals; nothing of the recorder's state. What becomes of the skip is written here anew; its type is the recorder's. How it is
+-- counted (`counted`) and how a time stands to the last one (`wayOf`) are said once, in recording/specs/Calls.antt.
 -- Assumes nothing.
 use Prim.Native.Nat.{ℕ, _-_, max}
 use mathlib.Core.Bool.{Bool, true, false}
@@ -36,6 +36,10 @@ skipStarted k = skipOf true (k .count)
 abbrev pub skipOver : ProbeSkip → ProbeSkip
 skipOver k = skipOf false (k .count)
 
+-- document 02, (j): a time equal to the last ends it in edition 2
+abbrev pub skipAtSame : (edition : ℕ) → ProbeSkip → ProbeSkip
+skipAtSame e k = pick (eqb e 2) (skipOver k) k
+
 -- a change in it is counted
 abbrev pub skipOneMore : ProbeSkip → ProbeSkip
 skipOneMore k = skipOf (k .on) (counted (k .count))
@@ -64,11 +68,11 @@ pub record Told : Type 0 where
 abbrev pub told : Heard → History → Told
 told a h = record { answer = a; next = h }
 
--- first or above the last: joins the times, ends the skip. Equal: nothing. Below: starts the skip
-abbrev pub tellTime : History → ℕ → Way → Told
-tellTime h t above = told taken (history (h .times ++ t ∷ []) (h .changes) (skipOver (h .skips)))
-tellTime h t equal = told calls.same h
-tellTime h t below = told back (history (h .times) (h .changes) (skipStarted (h .skips)))
+-- first or above the last: joins the times, ends the skip. Equal: ends the skip in edition 2. Below: starts the skip
+abbrev pub tellTime : (edition : ℕ) → History → ℕ → Way → Told
+tellTime e h t above = told taken (history (h .times ++ t ∷ []) (h .changes) (skipOver (h .skips)))
+tellTime e h t equal = told calls.same (history (h .times) (h .changes) (skipAtSame e (h .skips)))
+tellTime e h t below = told back (history (h .times) (h .changes) (skipStarted (h .skips)))
 
 -- in a skip: counted. A value that says nothing to the signal's kind (then the call is refused): nothing. Else: joins with the place of
 -- the last time, its content and its class
@@ -79,22 +83,22 @@ tellChange h g false (accept a c) =
     told recorded (history (h .times) (h .changes ++ record { signal = g; place = length (h .times) - 1; content = a; class = c } ∷ []) (h .skips))
 
 -- a refused call, or finish: nothing changes
-unfoldable pub tell : List SignalEncoding → History → Call → (refused : Bool) → Told
-tell ks h c true = told silent h
-tell ks h (time t) false = tellTime h t (wayOf (h .times) t)
-tell ks h (change g v) false = tellChange h g (h .skips .on) (decode (getD ks g Absent) v)
-tell ks h finish false = told silent h
+unfoldable pub tell : List SignalEncoding → (edition : ℕ) → History → Call → (refused : Bool) → Told
+tell ks e h c true = told silent h
+tell ks e h (time t) false = tellTime e h t (wayOf (h .times) t)
+tell ks e h (change g v) false = tellChange h g (h .skips .on) (decode (getD ks g Absent) v)
+tell ks e h finish false = told silent h
 
 pub record Telling : Type 0 where
   pub answers : List Heard
   pub last : History
 
-unfoldable pub tellAll : List SignalEncoding → History → List Call → (refusals : List Bool) → Telling
-tellAll ks h [] rs = record { answers = []; last = h }
-tellAll ks h (c ∷ cs) [] = record { answers = []; last = h }
-tellAll ks h (c ∷ cs) (r ∷ rs) =
-    let t = tell ks h c r in
-    let k = tellAll ks (t .next) cs rs in
+unfoldable pub tellAll : List SignalEncoding → (edition : ℕ) → History → List Call → (refusals : List Bool) → Telling
+tellAll ks e h [] rs = record { answers = []; last = h }
+tellAll ks e h (c ∷ cs) [] = record { answers = []; last = h }
+tellAll ks e h (c ∷ cs) (r ∷ rs) =
+    let t = tell ks e h c r in
+    let k = tellAll ks e (t .next) cs rs in
     record { answers = t .answer ∷ k .answers; last = k .last }
 
 -- ---- what is kept

@@ -17,6 +17,7 @@ ghost use mathlib.Core.Path.{_≡_};
 ghost use mathlib.Core.List.{[]};
 ghost use Rattle.signal.specs.Content.{vcd, raw, real};
 ghost use Rattle.recording.specs.Memory.{memory};
+ghost use Rattle.recording.specs.State.{settingsOf};
 ghost use Rattle.recording.specs.Step.{startOf, timeOf, changeOf, finishOf};
 ghost use Rattle.storage.specs.Storage.{recordsOf};
 ghost use Rattle.interface_state.specs.State.{stateFrom};
@@ -28,14 +29,19 @@ pub extern "C" fn wejumo_start(
     state: StateNumbers,
     limit: u32,
     signals: u32,
+    edition: u32,
     records: &mut [u64],
     times: &[u64],
     image: &mut [u8],
 ) -> OutcomeNumbers
     ensures { λ r. ⌜ told r (recordsOf (now (records .exit))) (now (times .entry)) [] (now (image .exit))
-        ≡ toldOf state (startOf limit signals (memory (stateFrom state) (recordsOf (now (records .entry))) (now (times .entry)) [] (now (image .entry)))) ⌝ }
+        ≡ toldOf state (startOf (settingsOf limit signals edition) (memory (stateFrom state) (recordsOf (now (records .entry))) (now (times .entry)) [] (now (image .entry)))) ⌝ }
 {
-    let settings = Settings { limit, signals };
+    let settings = Settings {
+        limit,
+        signals,
+        edition,
+    };
     let done = start(state_from(state), settings, records, times, image);
     outcome_numbers(state, done)
 }

@@ -27,6 +27,7 @@ stateFrom s =
       work = s .work;
       image = s .image;
       blocks = s .blocks;
+      edition = s .edition;
       skips = probeSkip (flagFrom (s .skip)) (s .skipped);
     }
 
@@ -43,4 +44,5 @@ stateAfter s e =
       blocks = e .blocks;
       skip = flagAfter (s .skip) (e .skips .on);
       skipped = e .skips .count;
+      edition = e .edition;
     }

@@ -4,7 +4,7 @@ use recording::ProbeSkip;
 ghost use mathlib.Core.Path.{_≡_};
 ghost use Rattle.interface_state.specs.State.{flagAfter, stateFrom, stateAfter};
 
-// The fields of `Encoder`, those of its skip last. `closed` and `skip` are off at 0 and on at every other number.
+// The fields of `Encoder`; those that it was given later stand last, so that no offset moves. `closed` and `skip` are off at 0 and on at every other number.
 #[repr(C)]
 pub struct StateNumbers {
     pub closed: u32,
@@ -16,6 +16,7 @@ pub struct StateNumbers {
     pub blocks: u32,
     pub skip: u32,
     pub skipped: u32,
+    pub edition: u32,
 }
 
 // The recording that a caller's numbers say.
@@ -30,6 +31,7 @@ pub fn state_from(state: StateNumbers) -> Encoder
         work: state.work,
         image: state.image,
         blocks: state.blocks,
+        edition: state.edition,
         skips: ProbeSkip {
             on: state.skip != 0,
             count: state.skipped,
@@ -64,5 +66,6 @@ pub fn state_after(before: StateNumbers, state: Encoder) -> StateNumbers
         blocks: state.blocks,
         skip: flag_after(before.skip, state.skips.on),
         skipped: state.skips.count,
+        edition: state.edition,
     }
 }

@@ -2,7 +2,7 @@
 -- Assumes nothing.
 use Prim.Native.Nat.{ℕ, _<_}
 use mathlib.Core.Path.{_≡_, refl, sym, ap, _∙_}
-use mathlib.Core.Bool.{true, false}
+use mathlib.Core.Bool.{Bool, true, false}
 use mathlib.Core.List.{List, [], _∷_}
 use native.Mathlib.Omega.{arith}
 use borrow.Author.Tests.{ne-eqb}
@@ -15,7 +15,7 @@ use Rattle.digits.specs.declared.Number.{Number}
 use Rattle.digits.specs.declared.Number32.{Number32}
 use Rattle.digits.specs.Value.{valueIn, valueIn32}
 use Rattle.line.specs.Words.{word}
-use Rattle.line.specs.Line.{number32, nothing, finish, notUnderstood, lendOf, startOf, timeOf, vcdOf, rawOf, realOf, callOf, lineOf}
+use Rattle.line.specs.Line.{number32, nothing, finish, notUnderstood, lendOf, editionOf, startOf, timeOf, vcdOf, rawOf, realOf, changeOf, callOf, lineOf}
 
 module _ (l : List ℕ) where
   -- the first word is none of the names before
@@ -23,33 +23,41 @@ module _ (l : List ℕ) where
   unfolding callOf
   call-lend a = rw a refl
 
-  pub call-start : same (word 0 l) (ascii "lend") ≡ false → same (word 0 l) (ascii "start") ≡ true → callOf l ≡ startOf l
+  pub call-edition : same (word 0 l) (ascii "lend") ≡ false → same (word 0 l) (ascii "edition") ≡ true → callOf l ≡ editionOf l
   unfolding callOf
-  call-start a b = rw (a, b) refl
+  call-edition a b = rw (a, b) refl
 
-  pub call-time : same (word 0 l) (ascii "lend") ≡ false → same (word 0 l) (ascii "start") ≡ false → same (word 0 l) (ascii "time") ≡ true → callOf l ≡ timeOf l
+  pub call-start : same (word 0 l) (ascii "lend") ≡ false → same (word 0 l) (ascii "edition") ≡ false → same (word 0 l) (ascii "start") ≡ true → callOf l ≡ startOf l
   unfolding callOf
-  call-time a b d = rw (a, b, d) refl
+  call-start a b d = rw (a, b, d) refl
 
-  pub call-vcd : same (word 0 l) (ascii "lend") ≡ false → same (word 0 l) (ascii "start") ≡ false → same (word 0 l) (ascii "time") ≡ false → same (word 0 l) (ascii "vcd") ≡ true → callOf l ≡ vcdOf l
+  pub call-time : same (word 0 l) (ascii "lend") ≡ false → same (word 0 l) (ascii "edition") ≡ false
+      → same (word 0 l) (ascii "start") ≡ false → same (word 0 l) (ascii "time") ≡ true → callOf l ≡ timeOf l
   unfolding callOf
-  call-vcd a b d e = rw (a, b, d, e) refl
+  call-time a b d e = rw (a, b, d, e) refl
 
-  pub call-raw : same (word 0 l) (ascii "lend") ≡ false → same (word 0 l) (ascii "start") ≡ false → same (word 0 l) (ascii "time") ≡ false → same (word 0 l) (ascii "vcd") ≡ false
-      → same (word 0 l) (ascii "raw") ≡ true → callOf l ≡ rawOf l
+  pub call-change : same (word 0 l) (ascii "lend") ≡ false → same (word 0 l) (ascii "edition") ≡ false
+      → same (word 0 l) (ascii "start") ≡ false → same (word 0 l) (ascii "time") ≡ false → callOf l ≡ changeOf l
   unfolding callOf
-  call-raw a b d e f = rw (a, b, d, e, f) refl
+  call-change a b d e = rw (a, b, d, e) refl
 
-  pub call-real : same (word 0 l) (ascii "lend") ≡ false → same (word 0 l) (ascii "start") ≡ false → same (word 0 l) (ascii "time") ≡ false → same (word 0 l) (ascii "vcd") ≡ false
-      → same (word 0 l) (ascii "raw") ≡ false → same (word 0 l) (ascii "real") ≡ true → callOf l ≡ realOf l
-  unfolding callOf
-  call-real a b d e f g = rw (a, b, d, e, f, g) refl
+  -- so for the changes
+  pub change-vcd : same (word 0 l) (ascii "vcd") ≡ true → changeOf l ≡ vcdOf l
+  unfolding changeOf
+  change-vcd a = rw a refl
 
-  pub call-finish : same (word 0 l) (ascii "lend") ≡ false → same (word 0 l) (ascii "start") ≡ false → same (word 0 l) (ascii "time") ≡ false
-      → same (word 0 l) (ascii "vcd") ≡ false → same (word 0 l) (ascii "raw") ≡ false → same (word 0 l) (ascii "real") ≡ false
-      → callOf l ≡ pick (same l (ascii "finish")) finish notUnderstood
-  unfolding callOf
-  call-finish a b d e f g = rw (a, b, d, e, f, g) refl
+  pub change-raw : same (word 0 l) (ascii "vcd") ≡ false → same (word 0 l) (ascii "raw") ≡ true → changeOf l ≡ rawOf l
+  unfolding changeOf
+  change-raw a b = rw (a, b) refl
+
+  pub change-real : same (word 0 l) (ascii "vcd") ≡ false → same (word 0 l) (ascii "raw") ≡ false → same (word 0 l) (ascii "real") ≡ true → changeOf l ≡ realOf l
+  unfolding changeOf
+  change-real a b d = rw (a, b, d) refl
+
+  pub change-finish : same (word 0 l) (ascii "vcd") ≡ false → same (word 0 l) (ascii "raw") ≡ false
+      → same (word 0 l) (ascii "real") ≡ false → changeOf l ≡ pick (same l (ascii "finish")) finish notUnderstood
+  unfolding changeOf
+  change-finish a b d = rw (a, b, d) refl
 
 -- ---- an empty line, a comment, any other
 
@@ -67,6 +75,11 @@ pub line-call : (l : List ℕ) → 0 < length l → (getD l 0 0 ≡ 35 → ⊥) 
 unfolding lineOf
 line-call [] h n = absurd (omega arith)
 line-call (b ∷ l) h n = rw (ne-eqb b 35 n) refl
+
+-- ---- a word s of the line, held against a name, by the answer r
+
+pub spelled : (r v : Bool) (s w name : List ℕ) → r ≡ same s name → s ≡ w → r ≡ v → same w name ≡ v
+spelled r v s w name e p q = sym (ap (λ (x : List ℕ). same x name) p) ∙ sym e ∙ q
 
 -- ---- a number that was read of a part w of the line, by the answer v
 

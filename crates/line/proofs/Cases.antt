@@ -9,7 +9,8 @@ use Rattle.ascii.specs.Ascii.{ascii}
 use Rattle.signal.specs.declared.kind.SignalEncoding.the-variants.{BitVector, Real, Absent}
 use Rattle.digits.specs.Numbers.{digitOf, digitsFrom, numberOf, numberTo, hexBytes, bitsOf}
 use Rattle.line.specs.Words.{wordOf, pastWord, after, wordsOf}
-use Rattle.line.specs.Line.{Line, nothing, lend, start, time, vcd, raw, real, finish, notUnderstood, lendOf, kindOf, kindsOf, kindsIn, startOf, timeOf, vcdOf, rawOf, realOf, callOf, lineOf}
+use Rattle.line.specs.Line.{Line, nothing, lend, edition, start, time, vcd, raw, real, finish, notUnderstood}
+use Rattle.line.specs.Line.{lendOf, editionOf, kindOf, kindsOf, kindsIn, startOf, timeOf, vcdOf, rawOf, realOf, changeOf, callOf, lineOf}
 
 -- lines, each with what it says; a carriage return is a byte of its line
 unfoldable pub understood : List (List ℕ × Line)
@@ -19,6 +20,10 @@ understood =
     ∷ (ascii "#", nothing)
     ∷ (ascii "lend 65535 1048576 1048576", lend 65535 1048576 1048576)
     ∷ (ascii "lend 007 0 12", lend 7 0 12)
+    ∷ (ascii "edition 2", edition 2)
+    ∷ (ascii "edition 0", edition 0)
+    ∷ (ascii "edition 4294967295", edition 4294967295)
+    ∷ (ascii "edition 002", edition 2)
     ∷ (ascii "start 5 4 1 0 event real absent", start 5 4 (BitVector 1 ∷ BitVector 0 ∷ BitVector 0 ∷ Real ∷ Absent ∷ []))
     ∷ (ascii "start 0 4", start 0 4 [])
     ∷ (ascii "start 3 2 65536 65537 4294967294", start 3 2 (BitVector 65536 ∷ BitVector 65537 ∷ BitVector 65537 ∷ []))
@@ -37,7 +42,8 @@ understood =
     ∷ []
 
 pub all-understood : map (λ (r : List ℕ × Line). lineOf (r .0)) understood ≡ map (λ (r : List ℕ × Line). r .1) understood
-unfolding wordOf pastWord after wordsOf digitOf digitsFrom numberOf numberTo hexBytes bitsOf same lendOf kindOf kindsOf kindsIn startOf timeOf vcdOf rawOf realOf callOf lineOf understood
+unfolding wordOf pastWord after wordsOf digitOf digitsFrom numberOf numberTo hexBytes bitsOf same lendOf editionOf kindOf kindsOf kindsIn startOf timeOf vcdOf rawOf
+    realOf changeOf callOf lineOf understood
 all-understood = refl
 
 -- lines that are none of these
@@ -51,6 +57,12 @@ strange =
     ∷ ascii "lend 1 2"
     ∷ ascii "lend 1 2 3 4"
     ∷ ascii "lend 1 2 3 "
+    ∷ ascii "edition"
+    ∷ ascii "edition "
+    ∷ ascii "edition 4294967296"
+    ∷ ascii "edition 1 "
+    ∷ ascii "edition 1 2"
+    ∷ ascii "Edition 1"
     ∷ ascii "start"
     ∷ ascii "start 1"
     ∷ ascii "start 1 4 "
@@ -89,5 +101,6 @@ strange =
     ∷ []
 
 pub none-understood : map lineOf strange ≡ replicate (length strange) notUnderstood
-unfolding wordOf pastWord after wordsOf digitOf digitsFrom numberOf numberTo hexBytes bitsOf same lendOf kindOf kindsOf kindsIn startOf timeOf vcdOf rawOf realOf callOf lineOf strange
+unfolding wordOf pastWord after wordsOf digitOf digitsFrom numberOf numberTo hexBytes bitsOf same lendOf editionOf kindOf kindsOf kindsIn startOf timeOf vcdOf rawOf
+    realOf changeOf callOf lineOf strange
 none-understood = refl

@@ -15,7 +15,7 @@ use Rattle.line.specs.declared.kinds.MaybeKind.the-variants as kind
 use Rattle.line.specs.declared.Command.{Command}
 use Rattle.line.specs.declared.Command.the-variants as command
 use Rattle.line.specs.Words.{after}
-use Rattle.line.specs.Line.{Line, nothing, lend, start, time, vcd, raw, real, finish, notUnderstood, kindsIn}
+use Rattle.line.specs.Line.{Line, nothing, lend, edition, start, time, vcd, raw, real, finish, notUnderstood, kindsIn}
 
 abbrev pub kindInside : MaybeKind → Option SignalEncoding
 kindInside (kind.Some k) = some k
@@ -33,6 +33,7 @@ kindList l = orEmpty (kindsIn l)
 unfoldable pub shown : List ℕ → Command → Line
 shown l command.Nothing = nothing
 shown l (command.Lend t w i) = lend t w i
+shown l (command.Edition n) = edition n
 shown l (command.Start s b) = start s b (kindList l)
 shown l (command.Time n) = time n
 shown l (command.Vcd g) = vcd g (after 2 l)

@@ -17,6 +17,7 @@ pub data Line : Type 0 where
   -- a comment or an empty line
   nothing : Line
   lend : (times work image : ℕ) → Line
+  edition : ℕ → Line
   start : (signals limit : ℕ) → List SignalEncoding → Line
   time : ℕ → Line
   vcd : (signal : ℕ) → (text : List ℕ) → Line
@@ -29,7 +30,7 @@ abbrev pub understood : Option Line → Line
 understood none = notUnderstood
 understood (some l) = l
 
--- signal, claim, S, B and widths have 32 bits
+-- edition, signal, claim, S, B and widths have 32 bits
 abbrev pub number32 : List ℕ → Option ℕ
 number32 w = numberTo 4294967295 w
 
@@ -42,6 +43,11 @@ lendOf l =
     bind (numberTo 1048576 (word 2 l)) (λ w.
     bind (numberTo 1048576 (after 3 l)) (λ i.
     some (lend t w i)))))
+
+-- ---- edition N: chosen for the starts after it
+
+unfoldable pub editionOf : List ℕ → Line
+editionOf l = understood (bind (number32 (after 1 l)) (λ n. some (edition n)))
 
 -- ---- start S B KIND KIND ...
 
@@ -102,17 +108,23 @@ realOf l =
 
 -- ---- the line
 
--- the first word says which; nothing follows `finish`
-unfoldable pub callOf : List ℕ → Line
-callOf l =
-    pick (same (word 0 l) (ascii "lend")) (lendOf l)
-    (pick (same (word 0 l) (ascii "start")) (startOf l)
-    (pick (same (word 0 l) (ascii "time")) (timeOf l)
-    (pick (same (word 0 l) (ascii "vcd")) (vcdOf l)
+-- the first word says which change; nothing follows `finish`
+unfoldable pub changeOf : List ℕ → Line
+changeOf l =
+    pick (same (word 0 l) (ascii "vcd")) (vcdOf l)
     (pick (same (word 0 l) (ascii "raw")) (rawOf l)
     (pick (same (word 0 l) (ascii "real")) (realOf l)
     (pick (same l (ascii "finish")) finish
-    notUnderstood))))))
+    notUnderstood)))
+
+-- the first word says which; any other is left to the changes
+unfoldable pub callOf : List ℕ → Line
+callOf l =
+    pick (same (word 0 l) (ascii "lend")) (lendOf l)
+    (pick (same (word 0 l) (ascii "edition")) (editionOf l)
+    (pick (same (word 0 l) (ascii "start")) (startOf l)
+    (pick (same (word 0 l) (ascii "time")) (timeOf l)
+    (changeOf l))))
 
 -- an empty line has no byte; a comment has `#` in its first column
 unfoldable pub lineOf : List ℕ → Line

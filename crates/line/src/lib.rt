@@ -18,7 +18,7 @@ use words::after;
 use words::spells;
 use words::word;
 ghost use mathlib.Core.Path.{_≡_};
-ghost use Rattle.line.specs.Line.{lendOf, startOf, timeOf, vcdOf, rawOf, realOf, callOf, lineOf};
+ghost use Rattle.line.specs.Line.{lendOf, editionOf, startOf, timeOf, vcdOf, rawOf, realOf, changeOf, callOf, lineOf};
 ghost use Rattle.line.specs.Command.{shown};
 
 // How many times a line may lend at most, and how many bytes of work and of image.
@@ -32,6 +32,8 @@ pub enum Command {
     Nothing,
     // How many times, work bytes and image bytes.
     Lend(u64, u64, u64),
+    // The edition of the skip rule that the starts after it choose.
+    Edition(u32),
     // S and B.
     Start(u32, u32),
     Time(u64),
@@ -59,6 +61,16 @@ fn read_lend(line: &[u8]) -> Command
         return Command::NotUnderstood;
     };
     Command::Lend(times, work, image)
+}
+
+// `edition N`.
+fn read_edition(line: &[u8]) -> Command
+    ensures { λ r. ⌜ shown (now (line .entry)) r ≡ editionOf (now (line .entry)) ⌝ }
+{
+    match decimal_32(after(line, 1)) {
+        Number32::Value(edition) => Command::Edition(edition),
+        Number32::None => Command::NotUnderstood,
+    }
 }
 
 // `start S B KIND KIND ...`.
@@ -126,20 +138,11 @@ fn read_real(line: &[u8]) -> Command
     }
 }
 
-// A line that is neither empty nor a comment.
-fn read_call(line: &[u8]) -> Command
-    ensures { λ r. ⌜ shown (now (line .entry)) r ≡ callOf (now (line .entry)) ⌝ }
+// A change or a finish.
+fn read_change(line: &[u8]) -> Command
+    ensures { λ r. ⌜ shown (now (line .entry)) r ≡ changeOf (now (line .entry)) ⌝ }
 {
     let name = word(line, 0);
-    if spells(name, b"lend") {
-        return read_lend(line);
-    }
-    if spells(name, b"start") {
-        return read_start(line);
-    }
-    if spells(name, b"time") {
-        return read_time(line);
-    }
     if spells(name, b"vcd") {
         return read_vcd(line);
     }
@@ -153,6 +156,26 @@ fn read_call(line: &[u8]) -> Command
         return Command::Finish;
     }
     Command::NotUnderstood
+}
+
+// A line that is neither empty nor a comment. The changes are left to a function of their own: its proof stays short.
+fn read_call(line: &[u8]) -> Command
+    ensures { λ r. ⌜ shown (now (line .entry)) r ≡ callOf (now (line .entry)) ⌝ }
+{
+    let name = word(line, 0);
+    if spells(name, b"lend") {
+        return read_lend(line);
+    }
+    if spells(name, b"edition") {
+        return read_edition(line);
+    }
+    if spells(name, b"start") {
+        return read_start(line);
+    }
+    if spells(name, b"time") {
+        return read_time(line);
+    }
+    read_change(line)
 }
 
 // What a line says.

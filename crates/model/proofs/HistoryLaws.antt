@@ -17,9 +17,10 @@ use Rattle.signal.specs.declared.kind.SignalEncoding.the-variants.{Absent}
 use Rattle.signal.specs.Content.{Content, Given, Decoded, refuse, accept, decode}
 use Rattle.codec.specs.Valid.{RisingFrom, Rising}
 use Rattle.recording.specs.Calls.{Call, time, change, finish, Way, above, equal, below, wayOf, counted}
-use Rattle.recording.specs.State.{probeSkip, skipBegun, skipEnded, skipCounted}
+use Rattle.recording.specs.State.{probeSkip, skipBegun, skipEnded, skipSame, skipCounted}
 use Rattle.recording.specs.declared.ProbeSkip.{ProbeSkip}
-use Rattle.history.specs.History.{History, noHistory, tellTime, tellChange, tell, tellAll}
+use Rattle.recording.specs.declared.Settings.{Settings}
+use Rattle.history.specs.History.{History, noHistory, skipAtSame, tellTime, tellChange, tell, tellAll}
 use Rattle.loaded.specs.Loading.{overlap, joinTimes}
 use Rattle.loaded.proofs.TableLaws.{joined-length}
 use Rattle.model.specs.Model.{Chunk, chunk, noChunk, shifts, join, joined, Model, model, noModel, cut, timed, modelTime, modelChange, close, noTime, modelStep, told}
@@ -112,31 +113,31 @@ unfolding cut
 never p true e f = let z : _≡_ {A = ℕ} 0 1 = cc in absurd (omega arith)
 never p false e f = let z : _≡_ {A = ℕ} 0 1 = cc in absurd (omega arith)
 
-time-same : (limit : ℕ) (p : Model) (h : History) (t : ℕ) (way : Way) → 0 < limit → p .closed ≡ false → Same p h
-    → Same (modelTime limit p t way) (tellTime h t way .next)
-unfolding modelTime skipBegun skipEnded
-time-same limit p h t above pos up s =
+time-same : (settings : Settings) (p : Model) (h : History) (t : ℕ) (way : Way) → 0 < settings .limit → p .closed ≡ false → Same p h
+    → Same (modelTime settings p t way) (tellTime (settings .edition) h t way .next)
+unfolding modelTime skipBegun skipEnded skipSame
+time-same settings p h t above pos up s =
     record {
       held = go (ℕ-discrete (length (p .now .times)) 0);
-      skips = ap (λ (k : ProbeSkip). probeSkip false (k .count)) (pick-skips p (eqb (length (p .now .times)) limit) ∙ s .skips);
+      skips = ap (λ (k : ProbeSkip). probeSkip false (k .count)) (pick-skips p (eqb (length (p .now .times)) (settings .limit)) ∙ s .skips);
       first = λ e. absurd (omega (arith, simp length-append at e));
-      shut = never p (eqb (length (p .now .times)) limit) up;
+      shut = never p (eqb (length (p .now .times)) (settings .limit)) up;
     }
   where
     b : Bool
-    b = eqb (length (p .now .times)) limit
+    b = eqb (length (p .now .times)) (settings .limit)
 
     go : Dec (length (p .now .times) ≡ 0) → all (timed (pick b (cut p) p) t) ≡ chunk (h .times ++ t ∷ []) (h .changes)
     go (yes e) =
-        let ne : length (p .now .times) ≡ limit → ⊥ = λ q. omega arith in
-        let nb : b ≡ false = ne-eqb (length (p .now .times)) limit ne in
+        let ne : length (p .now .times) ≡ settings .limit → ⊥ = λ q. omega arith in
+        let nb : b ≡ false = ne-eqb (length (p .now .times)) (settings .limit) ne in
         let a : chunk (p .now .times) (shifts 0 (p .now .changes)) ≡ told h = sym (all-none p (s .first e .0)) ∙ s .held in
         rw nb (all-none (timed p t) (s .first e .0) ∙ ap (λ (x : Chunk). chunk (x .times ++ t ∷ []) (x .changes)) a)
     go (no n) =
         let k : 0 < length (p .now .times) = omega arith in
         all-timed p t b k ∙ ap (λ (x : Chunk). chunk (x .times ++ t ∷ []) (x .changes)) (s .held)
-time-same limit p h t equal pos up s = s
-time-same limit p h t below pos up s = record { held = s .held; skips = ap (λ (k : ProbeSkip). probeSkip true (k .count)) (s .skips); first = s .first; shut = s .shut }
+time-same settings p h t equal pos up s = record { held = s .held; skips = ap (skipAtSame (settings .edition)) (s .skips); first = s .first; shut = s .shut }
+time-same settings p h t below pos up s = record { held = s .held; skips = ap (λ (k : ProbeSkip). probeSkip true (k .count)) (s .skips); first = s .first; shut = s .shut }
 
 -- ---- a change, a finish
 
@@ -175,18 +176,18 @@ close-same p h s = go (p .now .times) refl
 
 -- ---- one call: a call that is not refused meets an open recording, and a change that is not refused has a time before it
 
-pub step-same : (ks : List SignalEncoding) (limit : ℕ) (p : Model) (h : History) (c : Call) (refused : Bool) → 0 < limit
+pub step-same : (ks : List SignalEncoding) (settings : Settings) (p : Model) (h : History) (c : Call) (refused : Bool) → 0 < settings .limit
     → (refused ≡ false → p .closed ≡ false) → (refused ≡ false → (g : ℕ) (v : Given) → c ≡ change g v → 0 < length (p .now .times)) → Same p h
-    → Same (modelStep ks limit p c refused) (tell ks h c refused .next)
+    → Same (modelStep ks settings p c refused) (tell ks (settings .edition) h c refused .next)
 unfolding modelStep tell
-step-same ks limit p h c true pos up fine s = s
-step-same ks limit p h (time t) false pos up fine s =
-    subst (λ (w : Way). Same (modelTime limit p t w) (tellTime h t (wayOf (h .times) t) .next)) (sym (way-same p h t s))
-    (time-same limit p h t (wayOf (h .times) t) pos (up refl) s)
-step-same ks limit p h (change g v) false pos up fine s =
+step-same ks settings p h c true pos up fine s = s
+step-same ks settings p h (time t) false pos up fine s =
+    subst (λ (w : Way). Same (modelTime settings p t w) (tellTime (settings .edition) h t (wayOf (h .times) t) .next)) (sym (way-same p h t s))
+    (time-same settings p h t (wayOf (h .times) t) pos (up refl) s)
+step-same ks settings p h (change g v) false pos up fine s =
     subst (λ (k : ProbeSkip). Same (modelChange p g (k .on) (decode (getD ks g Absent) v)) (tellChange h g (h .skips .on) (decode (getD ks g Absent) v) .next)) (sym (s .skips))
     (change-same p h g (h .skips .on) (decode (getD ks g Absent) v) (fine refl g v refl) (up refl) s)
-step-same ks limit p h finish false pos up fine s = close-same p h s
+step-same ks settings p h finish false pos up fine s = close-same p h s
 
 pub start-same : Same noModel noHistory
 unfolding join joined shifts
@@ -209,25 +210,26 @@ way-rising (x ∷ l) t e r = rising-snoc x l t (ltb-true (lastOr x l) t (go (ltb
     go false true q = let z : _≡_ {A = ℕ} 0 1 = cc in absurd (omega arith)
     go false false q = let z : _≡_ {A = ℕ} 0 1 = cc in absurd (omega arith)
 
-time-rising : (h : History) (t : ℕ) (w : Way) → wayOf (h .times) t ≡ w → Rising (h .times) → Rising (tellTime h t w .next .times)
-time-rising h t above e r = way-rising (h .times) t e r
-time-rising h t equal e r = r
-time-rising h t below e r = r
+time-rising : (edition : ℕ) (h : History) (t : ℕ) (w : Way) → wayOf (h .times) t ≡ w → Rising (h .times) → Rising (tellTime edition h t w .next .times)
+time-rising edition h t above e r = way-rising (h .times) t e r
+time-rising edition h t equal e r = r
+time-rising edition h t below e r = r
 
 change-rising : (h : History) (g : ℕ) (b : Bool) (d : Decoded) → Rising (h .times) → Rising (tellChange h g b d .next .times)
 change-rising h g true d r = r
 change-rising h g false (refuse n) r = r
 change-rising h g false (accept a c) r = r
 
-tell-rising : (ks : List SignalEncoding) (h : History) (c : Call) (b : Bool) → Rising (h .times) → Rising (tell ks h c b .next .times)
+tell-rising : (ks : List SignalEncoding) (edition : ℕ) (h : History) (c : Call) (b : Bool) → Rising (h .times) → Rising (tell ks edition h c b .next .times)
 unfolding tell
-tell-rising ks h c true r = r
-tell-rising ks h (time t) false r = time-rising h t (wayOf (h .times) t) refl r
-tell-rising ks h (change g v) false r = change-rising h g (h .skips .on) (decode (getD ks g Absent) v) r
-tell-rising ks h finish false r = r
+tell-rising ks edition h c true r = r
+tell-rising ks edition h (time t) false r = time-rising edition h t (wayOf (h .times) t) refl r
+tell-rising ks edition h (change g v) false r = change-rising h g (h .skips .on) (decode (getD ks g Absent) v) r
+tell-rising ks edition h finish false r = r
 
-pub history-rising : (ks : List SignalEncoding) (cs : List Call) (h : History) (rs : List Bool) → Rising (h .times) → Rising (tellAll ks h cs rs .last .times)
+pub history-rising : (ks : List SignalEncoding) (edition : ℕ) (cs : List Call) (h : History) (rs : List Bool) → Rising (h .times)
+    → Rising (tellAll ks edition h cs rs .last .times)
 unfolding tellAll
-history-rising ks [] h rs r = r
-history-rising ks (c ∷ cs) h [] r = r
-history-rising ks (c ∷ cs) h (b ∷ rs) r = history-rising ks cs (tell ks h c b .next) rs (tell-rising ks h c b r)
+history-rising ks edition [] h rs r = r
+history-rising ks edition (c ∷ cs) h [] r = r
+history-rising ks edition (c ∷ cs) h (b ∷ rs) r = history-rising ks edition cs (tell ks edition h c b .next) rs (tell-rising ks edition h c b r)

@@ -23,6 +23,7 @@ use Rattle.image.specs.Block.{Part, Block, part, block}
 use Rattle.codec.specs.Valid.{RisingFrom, Rising, EntriesFit, OptionFits, BlockFits}
 use Rattle.codec.proofs.Growth.{parts-each, parts-count}
 use Rattle.recording.specs.Calls.{Call, time, change, finish, above, wayOf}
+use Rattle.recording.specs.declared.Settings.{Settings}
 use Rattle.recording.specs.State.{noSkips, skipEnded}
 use Rattle.history.specs.History.{Change, listOf, topOf}
 use Rattle.model.specs.Model.{Chunk, chunk, Model, model, noModel, modelTime, modelChange, modelStep, tab, partWith, storedOf, imageOf}
@@ -290,7 +291,7 @@ tab-self (p ∷ ps) d = ap (λ l. p ∷ l) (tab-shift 0 (length ps) (λ (g : ℕ
 
 -- ---- calls that the model takes
 
-module _ (limit : ℕ) (ks : List SignalEncoding) where
+module _ (settings : Settings) (ks : List SignalEncoding) where
   abbrev pub Proper : Model → Call → Type 0
   Proper p (time t) = Unit {0}
   Proper p (change g v) = (p .skips .on ≡ false) × (0 < length (p .now .times)) × ((a : Content) × (c : ℕ) × (decode (getD ks g Absent) v ≡ accept a c))
@@ -298,11 +299,11 @@ module _ (limit : ℕ) (ks : List SignalEncoding) where
 
   unfoldable pub modelRun : Model → List Call → Model
   modelRun p [] = p
-  modelRun p (c ∷ cs) = modelRun (modelStep ks limit p c false) cs
+  modelRun p (c ∷ cs) = modelRun (modelStep ks settings p c false) cs
 
   abbrev pub ProperRun : Model → List Call → Type 0
   ProperRun p [] = Unit {0}
-  ProperRun p (c ∷ cs) = (p .closed ≡ false) × Proper p c × ProperRun (modelStep ks limit p c false) cs
+  ProperRun p (c ∷ cs) = (p .closed ≡ false) × Proper p c × ProperRun (modelStep ks settings p c false) cs
 
   pub record Takes (p : Model) (cs : List Call) (q : Model) : Type 0 where
     pub proper : ProperRun p cs
@@ -312,7 +313,7 @@ module _ (limit : ℕ) (ks : List SignalEncoding) where
   unfolding modelRun
   takes-none p q e = record { proper = tt; run = e }
 
-  takes-cons : (p p′ q : Model) (c : Call) (cs : List Call) → p .closed ≡ false → Proper p c → modelStep ks limit p c false ≡ p′ → Takes p′ cs q → Takes p (c ∷ cs) q
+  takes-cons : (p p′ q : Model) (c : Call) (cs : List Call) → p .closed ≡ false → Proper p c → modelStep ks settings p c false ≡ p′ → Takes p′ cs q → Takes p (c ∷ cs) q
   unfolding modelRun
   takes-cons p p′ q c cs up ok e t = record {
     proper = (up, ok, subst (λ (x : Model). ProperRun x cs) (sym e) (t .proper));
@@ -323,7 +324,7 @@ module _ (limit : ℕ) (ks : List SignalEncoding) where
   unfolding modelRun
   takes-append [] ys p q r t u = subst (λ (x : Model). Takes x ys r) (sym (t .run)) u
   takes-append (x ∷ xs) ys p q r t u =
-      let ih = takes-append xs ys (modelStep ks limit p x false) q r (record { proper = t .proper .2; run = t .run }) u in
+      let ih = takes-append xs ys (modelStep ks settings p x false) q r (record { proper = t .proper .2; run = t .run }) u in
       record { proper = (t .proper .0, t .proper .1, ih .proper); run = ih .run }
 
   -- a model that is open and not skipping
@@ -392,14 +393,14 @@ module _ (limit : ℕ) (ks : List SignalEncoding) where
   way-take [] t h l = absurd (omega arith)
   way-take (x ∷ ts) t h l = rw (lt-ltb (lastOr x ts) t l) refl
 
-  time-take : (bs : List Chunk) (ts : List ℕ) (cs : List Change) (t : ℕ) → 0 < length ts → length ts < limit → lastOr 0 ts < t
-      → modelStep ks limit (live bs ts cs) (time t) false ≡ live bs (ts ++ t ∷ []) cs
+  time-take : (bs : List Chunk) (ts : List ℕ) (cs : List Change) (t : ℕ) → 0 < length ts → length ts < settings .limit → lastOr 0 ts < t
+      → modelStep ks settings (live bs ts cs) (time t) false ≡ live bs (ts ++ t ∷ []) cs
   unfolding modelStep modelTime skipEnded
   time-take bs ts cs t h l m =
-      let n : length ts ≡ limit → ⊥ = λ e. omega arith in
-      ap (modelTime limit (live bs ts cs) t) (way-take ts t h m) ∙ rw (ne-eqb (length ts) limit n) refl
+      let n : length ts ≡ settings .limit → ⊥ = λ e. omega arith in
+      ap (modelTime settings (live bs ts cs) t) (way-take ts t h m) ∙ rw (ne-eqb (length ts) (settings .limit) n) refl
 
-  block-take : (us ts : List ℕ) (i : ℕ) (ps : List (Part (List Entry))) (bs : List Chunk) (cs : List Change) → length ts ≡ suc i → length ts + length us ≤ limit
+  block-take : (us ts : List ℕ) (i : ℕ) (ps : List (Part (List Entry))) (bs : List Chunk) (cs : List Change) → length ts ≡ suc i → length ts + length us ≤ settings .limit
       → RisingFrom (lastOr 0 ts) us → SaidAll 0 ps → Takes (live bs ts cs) (blockCalls ks i us ps) (live bs (ts ++ us) (cs ++ blockMarks i us ps))
   unfolding blockCalls blockMarks
   block-take [] ts i ps bs cs l f r s = rw (append-nil ts) (round-take ps i 0 bs ts cs l s)
@@ -428,7 +429,7 @@ module _ (limit : ℕ) (ks : List SignalEncoding) where
   part-said k n none f = (tt, omega arith)
   part-said k n (some p) f = (f .entries, f .most)
 
-  module _ (s : Block (List Entry)) (f : BlockFits limit ks s) where
+  module _ (s : Block (List Entry)) (f : BlockFits (settings .limit) ks s) where
     abbrev Count : ℕ
     Count = length (s .times)
 
@@ -470,20 +471,20 @@ module _ (limit : ℕ) (ks : List SignalEncoding) where
     pub any : 0 < length times
     pub image : imageOf (length ks) [] (chunk times marks ∷ []) ≡ s ∷ []
 
-  first-take : (s : Block (List Entry)) (times : List ℕ) → 0 < limit → 1 ≤ length times → Rising times → length times ≤ limit → SaidAll 0 (bares (s .parts))
+  first-take : (s : Block (List Entry)) (times : List ℕ) → 0 < settings .limit → 1 ≤ length times → Rising times → length times ≤ settings .limit → SaidAll 0 (bares (s .parts))
       → Takes noModel (firstCalls ks times (bares (s .parts))) (live [] times (blockMarks 0 (drop 1 times) (bares (s .parts))))
   unfolding firstCalls modelStep modelTime wayOf skipEnded
   first-take s [] pos one r f v = absurd (omega arith)
   first-take s (t ∷ us) pos one r f v =
-      let n : 0 ≡ limit → ⊥ = λ z. omega arith in
-      takes-cons noModel (live [] (t ∷ []) []) (live [] (t ∷ us) (blockMarks 0 us (bares (s .parts)))) (time t) (blockCalls ks 0 us (bares (s .parts))) refl tt (rw (ne-eqb 0 limit n) refl)
+      let n : 0 ≡ settings .limit → ⊥ = λ z. omega arith in
+      takes-cons noModel (live [] (t ∷ []) []) (live [] (t ∷ us) (blockMarks 0 us (bares (s .parts)))) (time t) (blockCalls ks 0 us (bares (s .parts))) refl tt (rw (ne-eqb 0 (settings .limit) n) refl)
       (block-take us (t ∷ []) 0 (bares (s .parts)) [] [] refl (omega arith) (rises r) v)
     where
       rises : RisingFrom t us → RisingFrom (lastOr 0 (t ∷ [])) us
       rises h = unfold lastOr in h
 
   -- every block that fits is left by its list of calls and a finish
-  pub rebuild : (s : Block (List Entry)) → 0 < limit → BlockFits limit ks s → Rebuilt (imageCalls ks (some s)) s
+  pub rebuild : (s : Block (List Entry)) → 0 < settings .limit → BlockFits (settings .limit) ks s → Rebuilt (imageCalls ks (some s)) s
   unfolding imageOf
   rebuild s pos f =
       let us : List ℕ = drop 1 (s .times) in

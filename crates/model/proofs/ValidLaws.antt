@@ -22,8 +22,9 @@ use Rattle.codec.specs.Valid.{Rising, EachBelow, EntryFits, EntriesFit, OptionF
 use Rattle.codec.specs.Ends.{endAfter, lastIndex}
 use Rattle.codec.proofs.Growth.{entries-more, entries-wider, each-parts, blocks-join}
 use Rattle.recording.specs.Calls.{Call, time, change, finish, ValueFits, CallFits, Way, above, equal, below, wayOf}
-use Rattle.recording.specs.State.{skipBegun, skipCounted}
+use Rattle.recording.specs.State.{skipBegun, skipSame, skipCounted}
 use Rattle.recording.specs.declared.ProbeSkip.{ProbeSkip}
+use Rattle.recording.specs.declared.Settings.{Settings}
 use Rattle.history.specs.History.{Change, listOf, topOf}
 use Rattle.model.specs.Model.{Chunk, Model, model, noModel, cut, timed, modelTime, modelChange, close, noTime, modelStep, tab, partWith, storedOf, imageOf}
 use Rattle.model.proofs.LoadLaws.{list-append, top-append, stored-part}
@@ -216,21 +217,6 @@ module _ (limit : ℕ) (ks : List SignalEncoding) where
   skip-well : (p : Model) (k : ProbeSkip) (c : Bool) → Well p → Well (model (p .blocks) (p .now) k c)
   skip-well p k c w = record { done = w .done; room = w .room; starts = w .starts; rising = w .rising; small = w .small; signals = w .signals }
 
-  time-well : (p : Model) (t : ℕ) (way : Way) → 2 ≤ limit → t < 2 ^ 64 → wayOf (p .now .times) t ≡ way → First p → Well p → Well (modelTime limit p t way)
-  unfolding modelTime
-  time-well p t above two small e first w = go (eqb (length (p .now .times)) limit) refl
-    where
-      go : (b : Bool) → eqb (length (p .now .times)) limit ≡ b → Well (timed (pick b (cut p) p) t)
-      go true q = cut-well p t (eqb-true (length (p .now .times)) limit q) two small e w
-      go false q =
-          let z = eqb-false (length (p .now .times)) limit q in
-          timed-well p t (below-limit (w .room) z) small e first w
-        where
-          below-limit : length (p .now .times) ≤ limit → (length (p .now .times) ≡ limit → ⊥) → length (p .now .times) < limit
-          below-limit r n = omega arith
-  time-well p t equal two small e first w = w
-  time-well p t below two small e first w = skip-well p (skipBegun (p .skips)) (p .closed) w
-
   -- ---- a change
 
   added : (k : SignalEncoding) (n : ℕ) (seen cs : List Change) (g g' : ℕ) (a : Content) (c m : ℕ) → SignalFits k n seen cs g'
@@ -309,15 +295,34 @@ pub record Good (limit : ℕ) (ks : List SignalEncoding) (p : Model) : Type 0 wh
 good-open : (limit : ℕ) (ks : List SignalEncoding) (p : Model) → p .closed ≡ false → Well limit ks p → Good limit ks p
 good-open limit ks p e w = record { well = λ q. w; shut = λ q. let z : _≡_ {A = ℕ} 0 1 = cc in absurd (omega arith) }
 
-time-open : (limit : ℕ) (p : Model) (t : ℕ) (way : Way) → modelTime limit p t way .closed ≡ p .closed
+time-well : (settings : Settings) (ks : List SignalEncoding) (p : Model) (t : ℕ) (way : Way) → 2 ≤ settings .limit → t < 2 ^ 64 → wayOf (p .now .times) t ≡ way
+    → First (settings .limit) ks p → Well (settings .limit) ks p → Well (settings .limit) ks (modelTime settings p t way)
+unfolding modelTime
+time-well settings ks p t above two small e first w = go (eqb (length (p .now .times)) limit) refl
+  where
+    limit : ℕ
+    limit = settings .limit
+
+    go : (b : Bool) → eqb (length (p .now .times)) limit ≡ b → Well limit ks (timed (pick b (cut p) p) t)
+    go true q = cut-well limit ks p t (eqb-true (length (p .now .times)) limit q) two small e w
+    go false q =
+        let z = eqb-false (length (p .now .times)) limit q in
+        timed-well limit ks p t (below-limit (w .room) z) small e first w
+      where
+        below-limit : length (p .now .times) ≤ limit → (length (p .now .times) ≡ limit → ⊥) → length (p .now .times) < limit
+        below-limit r n = omega arith
+time-well settings ks p t equal two small e first w = skip-well (settings .limit) ks p (skipSame (settings .edition) (p .skips)) (p .closed) w
+time-well settings ks p t below two small e first w = skip-well (settings .limit) ks p (skipBegun (p .skips)) (p .closed) w
+
+time-open : (settings : Settings) (p : Model) (t : ℕ) (way : Way) → modelTime settings p t way .closed ≡ p .closed
 unfolding modelTime cut
-time-open limit p t above = go (eqb (length (p .now .times)) limit)
+time-open settings p t above = go (eqb (length (p .now .times)) (settings .limit))
   where
     go : (b : Bool) → pick b (cut p) p .closed ≡ p .closed
     go true = unfold cut in refl
     go false = refl
-time-open limit p t equal = refl
-time-open limit p t below = refl
+time-open settings p t equal = refl
+time-open settings p t below = refl
 
 change-open : (p : Model) (g : ℕ) (b : Bool) (d : Decoded) → modelChange p g b d .closed ≡ p .closed
 unfolding modelChange
@@ -329,19 +334,20 @@ pub start-good : (limit : ℕ) (ks : List SignalEncoding) → Good limit ks noMo
 start-good limit ks = good-open limit ks noModel refl (start-well limit ks)
 
 -- a call that is not refused meets an open recording, and a change that is not refused has a time before it
-pub step-good : (limit : ℕ) (ks : List SignalEncoding) (p : Model) (c : Call) (refused : Bool) → 2 ≤ limit → CallFits c → (refused ≡ false → p .closed ≡ false)
+pub step-good : (settings : Settings) (ks : List SignalEncoding) (p : Model) (c : Call) (refused : Bool) → 2 ≤ settings .limit → CallFits c → (refused ≡ false → p .closed ≡ false)
     → (refused ≡ false → (g : ℕ) (v : Given) → c ≡ change g v → 0 < length (p .now .times))
-    → (length (p .now .times) ≡ 0 → (p .blocks ≡ []) × (p .now .changes ≡ [])) → Good limit ks p → Good limit ks (modelStep ks limit p c refused)
+    → (length (p .now .times) ≡ 0 → (p .blocks ≡ []) × (p .now .changes ≡ [])) → Good (settings .limit) ks p
+    → Good (settings .limit) ks (modelStep ks settings p c refused)
 unfolding modelStep
-step-good limit ks p c true two fit up fine first w = w
-step-good limit ks p (time t) false two fit up fine first w =
-    good-open limit ks (modelTime limit p t (wayOf (p .now .times) t)) (time-open limit p t (wayOf (p .now .times) t) ∙ up refl)
-    (time-well limit ks p t (wayOf (p .now .times) t) two fit refl first (w .well (up refl)))
-step-good limit ks p (change g v) false two fit up fine first w =
+step-good settings ks p c true two fit up fine first w = w
+step-good settings ks p (time t) false two fit up fine first w =
+    good-open (settings .limit) ks (modelTime settings p t (wayOf (p .now .times) t)) (time-open settings p t (wayOf (p .now .times) t) ∙ up refl)
+    (time-well settings ks p t (wayOf (p .now .times) t) two fit refl first (w .well (up refl)))
+step-good settings ks p (change g v) false two fit up fine first w =
     let d : Decoded = decode (getD ks g Absent) v in
-    good-open limit ks (modelChange p g (p .skips .on) d) (change-open p g (p .skips .on) d ∙ up refl)
-    (change-well limit ks p g (p .skips .on) v d (value-given v (fit .1)) refl (fine refl g v refl) (w .well (up refl)))
-step-good limit ks p finish false two fit up fine first w = record {
+    good-open (settings .limit) ks (modelChange p g (p .skips .on) d) (change-open p g (p .skips .on) d ∙ up refl)
+    (change-well (settings .limit) ks p g (p .skips .on) v d (value-given v (fit .1)) refl (fine refl g v refl) (w .well (up refl)))
+step-good settings ks p finish false two fit up fine first w = record {
   well = λ q. let z : _≡_ {A = ℕ} 0 1 = cc in absurd (omega arith);
-  shut = λ q. closed-fits limit ks p first (w .well (up refl));
+  shut = λ q. closed-fits (settings .limit) ks p first (w .well (up refl));
 }

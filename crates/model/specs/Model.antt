@@ -15,8 +15,9 @@ use Rattle.signal.specs.Content.{Decoded, refuse, accept, decode}
 use Rattle.stream.specs.Entries.{Entry}
 use Rattle.image.specs.Block.{Part, Block, part, block}
 use Rattle.recording.specs.Calls.{Call, time, change, finish, Way, above, equal, below, wayOf}
-use Rattle.recording.specs.State.{noSkips, skipBegun, skipEnded, skipCounted}
+use Rattle.recording.specs.State.{noSkips, skipBegun, skipEnded, skipSame, skipCounted}
 use Rattle.recording.specs.declared.ProbeSkip.{ProbeSkip}
+use Rattle.recording.specs.declared.Settings.{Settings}
 use Rattle.history.specs.History.{Change, History, listOf, topOf}
 use Rattle.loaded.specs.Loading.{overlap, joinTimes}
 
@@ -69,10 +70,10 @@ cut p = model (p .blocks ++ p .now ∷ []) (chunk (lastOr 0 (p .now .times) ∷ 
 abbrev pub timed : Model → ℕ → Model
 timed p t = model (p .blocks) (chunk (p .now .times ++ t ∷ []) (p .now .changes)) (skipEnded (p .skips)) (p .closed)
 
-unfoldable pub modelTime : (limit : ℕ) → Model → ℕ → Way → Model
-modelTime limit p t above = timed (pick (eqb (length (p .now .times)) limit) (cut p) p) t
-modelTime limit p t equal = p
-modelTime limit p t below = model (p .blocks) (p .now) (skipBegun (p .skips)) (p .closed)
+unfoldable pub modelTime : Settings → Model → ℕ → Way → Model
+modelTime settings p t above = timed (pick (eqb (length (p .now .times)) (settings .limit)) (cut p) p) t
+modelTime settings p t equal = model (p .blocks) (p .now) (skipSame (settings .edition) (p .skips)) (p .closed)
+modelTime settings p t below = model (p .blocks) (p .now) (skipBegun (p .skips)) (p .closed)
 
 unfoldable pub modelChange : Model → (signal : ℕ) → (skip : Bool) → Decoded → Model
 modelChange p g true d = model (p .blocks) (p .now) (skipCounted (p .skips)) (p .closed)
@@ -89,11 +90,11 @@ abbrev pub noTime : List ℕ → Bool
 noTime [] = true
 noTime (t ∷ ts) = false
 
-unfoldable pub modelStep : List SignalEncoding → (limit : ℕ) → Model → Call → (refused : Bool) → Model
-modelStep ks limit p c true = p
-modelStep ks limit p (time t) false = modelTime limit p t (wayOf (p .now .times) t)
-modelStep ks limit p (change g v) false = modelChange p g (p .skips .on) (decode (getD ks g Absent) v)
-modelStep ks limit p finish false = close (pick (noTime (p .now .times)) p (cut p))
+unfoldable pub modelStep : List SignalEncoding → Settings → Model → Call → (refused : Bool) → Model
+modelStep ks settings p c true = p
+modelStep ks settings p (time t) false = modelTime settings p t (wayOf (p .now .times) t)
+modelStep ks settings p (change g v) false = modelChange p g (p .skips .on) (decode (getD ks g Absent) v)
+modelStep ks settings p finish false = close (pick (noTime (p .now .times)) p (cut p))
 
 -- ---- the image of finished blocks
 

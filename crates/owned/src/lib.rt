@@ -43,7 +43,7 @@ pub fn start<'t, 'i>(
     image: &'i mut [u8],
 ) -> Kept
     ensures { λ r. ⌜ left (r .outcome) (r .records) (now (times .entry)) [] (now (image .exit))
-        ≡ startOf (settings .limit) (settings .signals) (memory state kept (now (times .entry)) [] (now (image .entry))) ⌝ }
+        ≡ startOf settings (memory state kept (now (times .entry)) [] (now (image .entry))) ⌝ }
 {
     let mut records = kept;
     let outcome = start::start(state, settings, &mut records, times, image);

@@ -1,4 +1,4 @@
-// Drives the recorder over an array of two records that the program owns: the bench sheet's recording, cuts, a skip, raw and real
+// Drives the recorder over an array of two records that the program owns: the bench sheet's recording, cuts, a skip in each edition, raw and real
 // values, and each refusal of a recorder. Document 01, 'Recording', 'Turned back' and 'Bench sheet'.
 //
 // Standard input has one call to a line, in the form of crates/refused/stdin; each is answered by a line. stdout is what
@@ -27,6 +27,7 @@ use sheet::run::TIMES;
 use sheet::run::WORK;
 use sheet::run::fresh_run;
 use sheet::run::put_outcome;
+use sheet::run::settings_of;
 use sheet::run::state_of;
 use sheet::run::take_line;
 use sheet::value_digits;
@@ -59,11 +60,13 @@ fn make(
     image: &mut [u8],
 ) -> [SignalRecord; 2] {
     let state = state_of(&*run);
+    let settings = settings_of(&*run);
     let t = run[TIMES];
     let w = run[WORK];
     let i = run[IMAGE];
     let kept = perform(
         run[CALL],
+        settings,
         run[FIRST],
         run[SECOND],
         value,

@@ -148,7 +148,7 @@ module _ (s : Encoder) (rs : List SignalRecord) (t w i : List ℕ) where
           (taking-does (outcome Taken (timedState s)) x (omega arith) (omega (arith, h .table, less)))
 
       way-does : (y : Way) → Does (planBy s (length rs) w (length i) x y) (step.timeBy m x y)
-      way-does equal = still-does (outcome Same s)
+      way-does equal = still-does (outcome Same (step.sameTime s))
       way-does below = still-does (outcome Back (step.skipping s))
       way-does above = by (ℕ-discrete (s .held) (s .limit))
         where

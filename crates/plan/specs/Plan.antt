@@ -10,7 +10,7 @@ use Rattle.recording.specs.declared.Encoder.{Encoder}
 use Rattle.recording.specs.Calls.{Way, above, equal, below, wayOf}
 use Rattle.recording.specs.Memory.{guarded}
 use Rattle.recording.specs.Refusals.{stateTests}
-use Rattle.recording.specs.Step.{skipping, withCut, timedState}
+use Rattle.recording.specs.Step.{sameTime, skipping, withCut, timedState}
 use Rattle.cut.specs.declared.CutSize.{CutSize}
 use Rattle.cut.specs.Cut.{sized}
 use Rattle.plan_state.specs.declared.plan.Plan.{Plan}
@@ -31,10 +31,11 @@ timeWithCut s n t size = taking (cutting (outcome Taken (timedState (withCut s s
 abbrev pub timeSized : Encoder → (records time : ℕ) → CutSize → Plan
 timeSized s n t c = bySize s c (timeWithCut s n t)
 
--- a larger time is taken, after a cut if the table already holds B times; an equal one changes nothing; a smaller one starts a skip
+-- a larger time is taken, after a cut if the table already holds B times; an equal one adds no time, and ends a skip in edition 2; a
+-- smaller one starts a skip
 abbrev pub planBy : Encoder → (records : ℕ) → (work : List ℕ) → (image time : ℕ) → Way → Plan
 planBy s n w i t above = pick (eqb (s .held) (s .limit)) (timeSized s n t (sized s w i)) (taking (still (outcome Taken (timedState s)) s) t)
-planBy s n w i t equal = still (outcome Same s) s
+planBy s n w i t equal = still (outcome Same (sameTime s)) s
 planBy s n w i t below = still (outcome Back (skipping s)) s
 
 -- `image` is how many bytes the image has

@@ -11,8 +11,8 @@ ghost use mathlib.Core.Path.{_≡_};
 ghost use lib.ListN.{length};
 ghost use Rattle.plan.specs.Begin.{beginOf, beginIn};
 
-// Starts a recording of S signals with at most B times a block, of n records and so many lent times: writes the head's numbers, unless it is
-// refused. unknown tells of a record whose kind is unknown.
+// Starts a recording of S signals with at most B times a block, by an edition of the skip rule, of n records and so many lent times: writes the
+// head's numbers, unless it is refused. unknown tells of a record whose kind is unknown.
 pub fn begin(
     state: Encoder,
     settings: Settings,
@@ -21,8 +21,8 @@ pub fn begin(
     times: usize,
     image: &mut [u8],
 ) -> Begun
-    ensures { λ r. ⌜ (r ≡ beginOf state (settings .limit) (settings .signals) unknown n times (length (now (image .entry))))
-        × (now (image .exit) ≡ beginIn (settings .limit) (settings .signals) unknown n times (now (image .entry))) ⌝ }
+    ensures { λ r. ⌜ (r ≡ beginOf state settings unknown n times (length (now (image .entry))))
+        × (now (image .exit) ≡ beginIn settings unknown n times (now (image .entry))) ⌝ }
 {
     let lent = Lengths {
         records: n,

@@ -40,7 +40,8 @@ fn plan_above(state: Encoder, lent: Lengths, work: &[u8], stamp: Stamp) -> Plan
     plan_taken(plan_cut(after, state, block.size, lent.records), stamp.time)
 }
 
-// A larger time than the last is taken, after a cut if the table is full; an equal one changes nothing; a smaller one starts a skip.
+// A larger time than the last is taken, after a cut if the table is full; an equal one adds no time, and ends a skip in edition 2; a smaller
+// one starts a skip.
 fn plan_time(state: Encoder, lent: Lengths, times: &[u64], work: &[u8], stamp: Stamp) -> Plan
     requires { ⌜ lent .times ≡ length (now times) ⌝ }
     ensures { λ r. ⌜ r ≡ planTime state (lent .records) (now (times .entry)) (now (work .entry)) (lent .image) (stamp .time) ⌝ }

@@ -10,7 +10,7 @@ use recording::Settings;
 ghost use mathlib.Core.Path.{_≡_};
 ghost use Prim.Native.Nat.{_+_, _≤_, _<_};
 ghost use Rattle.recording.specs.State.{startState};
-ghost use Rattle.recording.specs.Step.{skipping, timedState};
+ghost use Rattle.recording.specs.Step.{sameTime, skipping, timedState};
 ghost use Rattle.plan_state.specs.Outcomes.{outcome, closing};
 
 // A refusal by its number: nothing changes.
@@ -26,7 +26,7 @@ pub fn refused(n: u32, state: Encoder) -> Outcome
 // The state of a recording without times and blocks: of the image its head is used.
 pub fn begun(settings: Settings) -> Outcome
     requires { ⌜ settings .signals ≤ 65536 ⌝ }
-    ensures { λ r. ⌜ r ≡ outcome Answer.Started (startState (settings .limit) (settings .signals)) ⌝ }
+    ensures { λ r. ⌜ r ≡ outcome Answer.Started (startState settings) ⌝ }
 {
     let state = Encoder::started(settings);
     Outcome {
@@ -35,12 +35,17 @@ pub fn begun(settings: Settings) -> Outcome
     }
 }
 
-// An equal time changes nothing.
+// An equal time adds no time, and ends a skip in edition 2.
 pub fn same(state: Encoder) -> Outcome
-    ensures { λ r. ⌜ r ≡ outcome Answer.Same state ⌝ }
+    ensures { λ r. ⌜ r ≡ outcome Answer.Same (sameTime state) ⌝ }
 {
-    let answer = Answer::Same;
-    Outcome { answer, state }
+    let skips = state.skips;
+    let mut after = state;
+    after.skips = skips.after_same(state.edition);
+    Outcome {
+        answer: Answer::Same,
+        state: after,
+    }
 }
 
 // A smaller time starts a skip.

@@ -9,6 +9,7 @@ use lib.Dec.{ltb, leb, eqb}
 use Rattle.signal.specs.Kind.{knownKind, absent}
 use Rattle.image.specs.Head.{headSize, imageLimit}
 use Rattle.recording.specs.declared.Encoder.{Encoder}
+use Rattle.recording.specs.declared.Settings.{Settings}
 use Rattle.recording.specs.declared.SignalRecord.{SignalRecord}
 use Rattle.recording.specs.Memory.{Memory, Tests}
 
@@ -16,18 +17,23 @@ use Rattle.recording.specs.Memory.{Memory, Tests}
 abbrev pub outside : ℕ → Bool
 outside limit = ltb limit 2 || ltb 65535 limit
 
+-- document 02, (j): the editions of the skip rule are 1 and 2
+abbrev pub noEdition : ℕ → Bool
+noEdition e = ltb e 1 || ltb 2 e
+
 unfoldable pub unknownKind : List SignalRecord → Bool
 unknownKind [] = false
 unknownKind (r ∷ rs) = not (knownKind (r .kind)) || unknownKind rs
 
 -- 1, of a start, by the count of records, whether a kind among them is unknown, and the lengths of the lent memory
-unfoldable pub startTests : (limit signals records : ℕ) → (unknown : Bool) → (times image : ℕ) → Tests
-startTests limit signals records unknown times image =
-    (outside limit, 1)
-    ∷ (ltb times limit, 1)
-    ∷ (ltb 65536 signals || not (eqb signals records), 1)
+unfoldable pub startTests : Settings → (records : ℕ) → (unknown : Bool) → (times image : ℕ) → Tests
+startTests settings records unknown times image =
+    (outside (settings .limit), 1)
+    ∷ (noEdition (settings .edition), 1)
+    ∷ (ltb times (settings .limit), 1)
+    ∷ (ltb 65536 (settings .signals) || not (eqb (settings .signals) records), 1)
     ∷ (unknown, 1)
-    ∷ (ltb image (headSize signals) || ltb imageLimit image, 1)
+    ∷ (ltb image (headSize (settings .signals)) || ltb imageLimit image, 1)
     ∷ []
 
 -- 2, and the first group of 10, by the lengths of the lent memory
@@ -35,6 +41,7 @@ unfoldable pub stateTests : Encoder → (records times work image : ℕ) → Tes
 stateTests s records times work image =
     (s .closed, 2)
     ∷ (outside (s .limit), 10)
+    ∷ (noEdition (s .edition), 10)
     ∷ (ltb (s .limit) (s .held), 10)
     ∷ (ltb times (s .limit), 10)
     ∷ (ltb work (s .work) || ltb image (s .image), 10)

@@ -2,10 +2,18 @@
 -- Assumes nothing.
 use Prim.Native.Nat.{ℕ}
 use mathlib.Core.Bool.{Bool, true, false}
+use lib.Dec.{eqb}
+use Rattle.lists.specs.Choice.{pick}
 use Rattle.image.specs.Head.{headSize}
 use Rattle.recording.specs.declared.Encoder.{Encoder}
 use Rattle.recording.specs.declared.ProbeSkip.{ProbeSkip}
+use Rattle.recording.specs.declared.Settings.{Settings}
 use Rattle.recording.specs.Calls.{counted}
+
+-- ---- what a start is given
+
+abbrev pub settingsOf : (limit signals edition : ℕ) → Settings
+settingsOf l s e = record { limit = l; signals = s; edition = e }
 
 -- ---- the skip
 
@@ -24,37 +32,44 @@ skipBegun k = probeSkip true (k .count)
 unfoldable pub skipEnded : ProbeSkip → ProbeSkip
 skipEnded k = probeSkip false (k .count)
 
+-- document 02, (j): an equal time came, which ends a skip in edition 2
+unfoldable pub skipSame : (edition : ℕ) → ProbeSkip → ProbeSkip
+skipSame e k = pick (eqb e 2) (skipEnded k) k
+
 -- a change was skipped
 unfoldable pub skipCounted : ProbeSkip → ProbeSkip
 skipCounted k = probeSkip (k .on) (counted (k .count))
 
 -- ---- the state
 
-abbrev encoder : (closed : Bool) (limit signals held work image blocks : ℕ) → ProbeSkip → Encoder
-encoder c l s h w i b k = record { closed = c; limit = l; signals = s; held = h; work = w; image = i; blocks = b; skips = k }
+abbrev encoder : (closed : Bool) (limit signals held work image blocks edition : ℕ) → ProbeSkip → Encoder
+encoder c l s h w i b e k = record { closed = c; limit = l; signals = s; held = h; work = w; image = i; blocks = b; edition = e; skips = k }
 
 abbrev pub withClosed : Encoder → Bool → Encoder
-withClosed s c = encoder c (s .limit) (s .signals) (s .held) (s .work) (s .image) (s .blocks) (s .skips)
+withClosed s c = encoder c (s .limit) (s .signals) (s .held) (s .work) (s .image) (s .blocks) (s .edition) (s .skips)
 
 abbrev pub withHeld : Encoder → ℕ → Encoder
-withHeld s h = encoder (s .closed) (s .limit) (s .signals) h (s .work) (s .image) (s .blocks) (s .skips)
+withHeld s h = encoder (s .closed) (s .limit) (s .signals) h (s .work) (s .image) (s .blocks) (s .edition) (s .skips)
 
 abbrev pub withWork : Encoder → ℕ → Encoder
-withWork s w = encoder (s .closed) (s .limit) (s .signals) (s .held) w (s .image) (s .blocks) (s .skips)
+withWork s w = encoder (s .closed) (s .limit) (s .signals) (s .held) w (s .image) (s .blocks) (s .edition) (s .skips)
 
 abbrev pub withImage : Encoder → ℕ → Encoder
-withImage s i = encoder (s .closed) (s .limit) (s .signals) (s .held) (s .work) i (s .blocks) (s .skips)
+withImage s i = encoder (s .closed) (s .limit) (s .signals) (s .held) (s .work) i (s .blocks) (s .edition) (s .skips)
 
 abbrev pub withBlocks : Encoder → ℕ → Encoder
-withBlocks s b = encoder (s .closed) (s .limit) (s .signals) (s .held) (s .work) (s .image) b (s .skips)
+withBlocks s b = encoder (s .closed) (s .limit) (s .signals) (s .held) (s .work) (s .image) b (s .edition) (s .skips)
+
+abbrev pub withEdition : Encoder → ℕ → Encoder
+withEdition s e = encoder (s .closed) (s .limit) (s .signals) (s .held) (s .work) (s .image) (s .blocks) e (s .skips)
 
 abbrev pub withSkips : Encoder → ProbeSkip → Encoder
-withSkips s k = encoder (s .closed) (s .limit) (s .signals) (s .held) (s .work) (s .image) (s .blocks) k
+withSkips s k = encoder (s .closed) (s .limit) (s .signals) (s .held) (s .work) (s .image) (s .blocks) (s .edition) k
 
 -- as a start leaves it: no times and no blocks; of the image its head is used
-abbrev pub startState : (limit signals : ℕ) → Encoder
-startState l s = encoder false l s 0 0 (headSize s) 0 noSkips
+abbrev pub startState : Settings → Encoder
+startState settings = encoder false (settings .limit) (settings .signals) 0 0 (headSize (settings .signals)) 0 (settings .edition) noSkips
 
 -- before the first start: nothing is open
 abbrev pub closedState : Encoder
-closedState = encoder true 0 0 0 0 0 0 noSkips
+closedState = encoder true 0 0 0 0 0 0 0 noSkips

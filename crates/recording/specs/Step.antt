@@ -17,9 +17,10 @@ use Rattle.stream.specs.Stream.{changeBytes}
 use Rattle.image.specs.Block.{Part, Block, part, block, blockBytes}
 use Rattle.image.specs.Head.{headBytes, headSize}
 use Rattle.recording.specs.declared.Encoder.{Encoder}
+use Rattle.recording.specs.declared.Settings.{Settings}
 use Rattle.recording.specs.declared.SignalRecord.{SignalRecord}
 use Rattle.recording.specs.Calls.{Call, time, change, finish, taken, same, back, recorded, skipped, Reply, say, started, total, Way, above, equal, below, wayOf}
-use Rattle.recording.specs.State.{skipBegun, skipEnded, skipCounted, withClosed, withHeld, withWork, withImage, withBlocks, withSkips, startState}
+use Rattle.recording.specs.State.{skipBegun, skipEnded, skipSame, skipCounted, withClosed, withHeld, withWork, withImage, withBlocks, withSkips, startState}
 use Rattle.recording.specs.Work.{Item, item, itemBytes, itemsOf, gather}
 use Rattle.recording.specs.Memory.{Memory, memory, After, after, recordOf, recordAt, guarded, refused}
 use Rattle.recording.specs.Refusals.{unknownKind, startTests, openTests, earlyTests, signalTests, roomTests}
@@ -82,6 +83,10 @@ timedState s = withSkips (withHeld s (s .held + 1)) (skipEnded (s .skips))
 abbrev pub timed : Memory → ℕ → Memory
 timed m t = memory (timedState (m .state)) (m .records) (set (m .times) (m .state .held) t) (m .work) (m .image)
 
+-- document 02, (j)
+abbrev pub sameTime : Encoder → Encoder
+sameTime s = withSkips s (skipSame (s .edition) (s .skips))
+
 abbrev pub skipping : Encoder → Encoder
 skipping s = withSkips s (skipBegun (s .skips))
 
@@ -89,10 +94,11 @@ abbrev pub timeCut : Memory → ℕ → Cut → After
 timeCut m t (noCut n) = refused m n
 timeCut m t (cuts b) = after (say taken) (timed (cutIn m b) t)
 
--- a larger time is taken, after a cut if the table already holds B times; an equal one changes nothing; a smaller one starts a skip
+-- a larger time is taken, after a cut if the table already holds B times; an equal one adds no time, and ends a skip in edition 2; a smaller
+-- one starts a skip
 abbrev pub timeBy : Memory → ℕ → Way → After
 timeBy m t above = pick (eqb (m .state .held) (m .state .limit)) (timeCut m t (cutOf m)) (after (say taken) (timed m t))
-timeBy m t equal = after (say same) m
+timeBy m t equal = after (say same) (withState m (sameTime (m .state)))
 timeBy m t below = after (say back) (withState m (skipping (m .state)))
 
 unfoldable pub timeOf : Memory → ℕ → After
@@ -158,13 +164,13 @@ abbrev pub kindsOf : List SignalRecord → List SignalEncoding
 kindsOf = map kindIn
 
 -- a head with N = 0 and total 16 + 4S, each record's index and class 0
-unfoldable pub startOf : (limit signals : ℕ) → Memory → After
-startOf limit signals m =
-    guarded (startTests limit signals (length (m .records)) (unknownKind (m .records)) (length (m .times)) (length (m .image))) (refused m)
+unfoldable pub startOf : Settings → Memory → After
+startOf settings m =
+    guarded (startTests settings (length (m .records)) (unknownKind (m .records)) (length (m .times)) (length (m .image))) (refused m)
     (after started
-    (memory (startState limit signals)
+    (memory (startState settings)
     (map fresh (m .records)) (m .times) (m .work)
-    (sets (m .image) 0 (headBytes limit 0 (headSize signals) (kindsOf (m .records))))))
+    (sets (m .image) 0 (headBytes (settings .limit) 0 (headSize (settings .signals)) (kindsOf (m .records))))))
 
 -- ---- lists of calls
 

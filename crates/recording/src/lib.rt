@@ -10,6 +10,11 @@ ghost use Rattle.recording.specs.Step as step;
 
 pub mod state;
 
+// The editions of the skip rule: in the second an equal time ends a skip.
+pub const EDITION_1: u32 = 1;
+
+pub const EDITION_2: u32 = 2;
+
 // A signal's kind, the time index of its last change in the block (0 if it has none), and its top class.
 pub struct SignalRecord {
     pub kind: SignalEncoding,
@@ -38,14 +43,17 @@ pub struct Encoder {
     pub image: u32,
     // N.
     pub blocks: u32,
+    // Of the skip rule, 1 or 2.
+    pub edition: u32,
     pub skips: ProbeSkip,
 }
 
 // What a call is given beside lent memory and a value stands in a struct, so that a number more is a field and no function between has another
-// parameter. A start is given B and S.
+// parameter. A start is given B, S and the edition of the skip rule.
 pub struct Settings {
     pub limit: u32,
     pub signals: u32,
+    pub edition: u32,
 }
 
 // A time is given when it was.

@@ -1,11 +1,12 @@
 // What becomes of a skip, and the states that are made whole: code that changes a field or two names these and not every field.
+use crate::EDITION_2;
 use crate::Encoder;
 use crate::ProbeSkip;
 use crate::Settings;
 use image::layout::head_size;
 ghost use mathlib.Core.Path.{_≡_};
 ghost use Prim.Native.Nat.{_≤_};
-ghost use Rattle.recording.specs.State.{noSkips, skipBegun, skipEnded, skipCounted, startState};
+ghost use Rattle.recording.specs.State.{noSkips, skipBegun, skipEnded, skipSame, skipCounted, startState};
 
 impl ProbeSkip {
     // At a start.
@@ -34,6 +35,16 @@ impl ProbeSkip {
         ProbeSkip { on: false, count }
     }
 
+    // An equal time came: it ends a skip in edition 2.
+    pub fn after_same(self, edition: u32) -> ProbeSkip
+        ensures { λ r. ⌜ r ≡ skipSame edition self ⌝ }
+    {
+        if edition == EDITION_2 {
+            return self.ended();
+        }
+        self
+    }
+
     // A change was skipped.
     pub fn counted(self) -> ProbeSkip
         ensures { λ r. ⌜ r ≡ skipCounted self ⌝ }
@@ -54,7 +65,7 @@ impl Encoder {
     // As a start leaves it: no times and no blocks; of the image its head is used.
     pub fn started(settings: Settings) -> Encoder
         requires { ⌜ settings .signals ≤ 65536 ⌝ }
-        ensures { λ r. ⌜ r ≡ startState (settings .limit) (settings .signals) ⌝ }
+        ensures { λ r. ⌜ r ≡ startState settings ⌝ }
     {
         let image = head_size(settings.signals as usize) as u32;
         Encoder {
@@ -65,6 +76,7 @@ impl Encoder {
             work: 0,
             image,
             blocks: 0,
+            edition: settings.edition,
             skips: ProbeSkip::none(),
         }
     }

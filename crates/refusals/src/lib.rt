@@ -7,6 +7,8 @@ use image::limits::MAX_LIMIT;
 use image::limits::MAX_SIGNALS;
 use image::limits::MAX_TOTAL;
 use image::limits::MIN_LIMIT;
+use recording::EDITION_1;
+use recording::EDITION_2;
 use recording::Encoder;
 use recording::Lengths;
 use recording::Settings;
@@ -15,17 +17,11 @@ ghost use lib.ListN.{drop};
 ghost use Rattle.recording.specs.Memory.{first};
 ghost use Rattle.recording.specs.Refusals.{startTests, stateTests};
 
-// 1: what is not lawful in a start. unknown tells of a record whose kind is unknown.
-pub fn start_refusal(settings: Settings, unknown: bool, lent: Lengths) -> u32
-    ensures { λ r. ⌜ r ≡ first (startTests (settings .limit) (settings .signals) (lent .records) unknown (lent .times) (lent .image)) ⌝ }
+// What is not lawful in a start, from S on.
+fn signals_refusal(settings: Settings, unknown: bool, lent: Lengths) -> u32
+    ensures { λ r. ⌜ r ≡ first (drop 3 (startTests settings (lent .records) unknown (lent .times) (lent .image))) ⌝ }
 {
-    if settings.limit < MIN_LIMIT {
-        1
-    } else if MAX_LIMIT < settings.limit {
-        1
-    } else if lent.times < settings.limit as usize {
-        1
-    } else if MAX_SIGNALS < settings.signals {
+    if MAX_SIGNALS < settings.signals {
         1
     } else if settings.signals as usize != lent.records {
         1
@@ -40,9 +36,28 @@ pub fn start_refusal(settings: Settings, unknown: bool, lent: Lengths) -> u32
     }
 }
 
+// 1: what is not lawful in a start. unknown tells of a record whose kind is unknown.
+pub fn start_refusal(settings: Settings, unknown: bool, lent: Lengths) -> u32
+    ensures { λ r. ⌜ r ≡ first (startTests settings (lent .records) unknown (lent .times) (lent .image)) ⌝ }
+{
+    if settings.limit < MIN_LIMIT {
+        1
+    } else if MAX_LIMIT < settings.limit {
+        1
+    } else if settings.edition < EDITION_1 {
+        1
+    } else if EDITION_2 < settings.edition {
+        1
+    } else if lent.times < settings.limit as usize {
+        1
+    } else {
+        signals_refusal(settings, unknown, lent)
+    }
+}
+
 // The first group of 10, from the used bytes on.
 fn counts_refusal(state: Encoder, lent: Lengths, work: usize) -> u32
-    ensures { λ r. ⌜ r ≡ first (drop 4 (stateTests state (lent .records) (lent .times) work (lent .image))) ⌝ }
+    ensures { λ r. ⌜ r ≡ first (drop 5 (stateTests state (lent .records) (lent .times) work (lent .image))) ⌝ }
 {
     if (work as u64) < state.work {
         10
@@ -72,6 +87,10 @@ pub fn state_refusal(state: Encoder, lent: Lengths, work: usize) -> u32
     } else if state.limit < MIN_LIMIT {
         10
     } else if MAX_LIMIT < state.limit {
+        10
+    } else if state.edition < EDITION_1 {
+        10
+    } else if EDITION_2 < state.edition {
         10
     } else if state.limit < state.held {
         10

@@ -48,9 +48,10 @@ fn change(
     }
 }
 
-// Makes a call with its two numbers; value is the text of a VCD value, or the bytes of a raw one.
+// Makes a call with its two numbers, a start with its settings; value is the text of a VCD value, or the bytes of a raw one.
 pub fn perform(
     call: u64,
+    settings: Settings,
     first: u64,
     second: u64,
     value: &[u8],
@@ -61,13 +62,7 @@ pub fn perform(
     image: &mut [u8],
 ) -> Outcome {
     match call {
-        START => {
-            let settings = Settings {
-                limit: low(second),
-                signals: low(first),
-            };
-            start(state, settings, records, &*times, image)
-        }
+        START => start(state, settings, records, &*times, image),
         TIME => {
             let stamp = Stamp { time: first };
             time_change(state, records, times, &*work, image, stamp)

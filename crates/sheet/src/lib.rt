@@ -21,6 +21,7 @@ use run::SECOND;
 use run::TIMES;
 use run::WORK;
 use run::put_outcome;
+use run::settings_of;
 use run::state_of;
 ghost use Prim.Native.Nat.{_≤_};
 ghost use lib.ListN.{length};
@@ -54,12 +55,14 @@ pub fn make_call(
     image: &mut [u8],
 ) {
     let state = state_of(&*run);
+    let settings = settings_of(&*run);
     let r = run[RECORDS];
     let t = run[TIMES];
     let w = run[WORK];
     let i = run[IMAGE];
     let outcome = perform(
         run[CALL],
+        settings,
         run[FIRST],
         run[SECOND],
         value,

@@ -6,10 +6,11 @@ use recording::Answer;
 use recording::Encoder;
 use recording::Outcome;
 use recording::ProbeSkip;
+use recording::Settings;
 
-pub type Run = [u64; 20];
+pub type Run = [u64; 22];
 
-// The state's fields, in the order of `Encoder`, the skip's last; flags are 0 or 1.
+// The state's fields, in the order of `Encoder`, then the skip's two and the edition; flags are 0 or 1.
 pub const CLOSED: usize = 0;
 
 pub const LIMIT: usize = 1;
@@ -28,34 +29,40 @@ const SKIP: usize = 7;
 
 pub const SKIPPED: usize = 8;
 
+// The edition of the recording that is open; CHOSEN is the next one's.
+const EDITION: usize = 9;
+
 // How many fields the state has.
-pub const FIELDS: usize = 9;
+pub const FIELDS: usize = 10;
 
 // How many records the recording has; how many times, work bytes and image bytes are lent.
-pub const RECORDS: usize = 9;
+pub const RECORDS: usize = 10;
 
-pub const TIMES: usize = 10;
+pub const TIMES: usize = 11;
 
-pub const WORK: usize = 11;
+pub const WORK: usize = 12;
 
-pub const IMAGE: usize = 12;
+pub const IMAGE: usize = 13;
 
 // The last answer, by its place in `Answer`, and the number in it.
-pub const ANSWER: usize = 13;
+pub const ANSWER: usize = 14;
 
-pub const NUMBER: usize = 14;
+pub const NUMBER: usize = 15;
 
 // What the last line asks for, and the numbers of a call: S and B, the time, or the signal, and the claim or the bits.
-pub const CALL: usize = 15;
+pub const CALL: usize = 16;
 
-pub const FIRST: usize = 16;
+pub const FIRST: usize = 17;
 
-pub const SECOND: usize = 17;
+pub const SECOND: usize = 18;
+
+// The edition that a line chose last: the next start is given it. An open recording keeps its own.
+const CHOSEN: usize = 19;
 
 // For the program's own use: a flag of its run, and a number that it keeps over a call.
-pub const OWN: usize = 18;
+pub const OWN: usize = 20;
 
-pub const KEPT: usize = 19;
+pub const KEPT: usize = 21;
 
 // What a line asks for.
 pub const START: u64 = 0;
@@ -81,10 +88,11 @@ pub const FINISHED: u64 = 6;
 
 pub const REFUSED: u64 = 7;
 
-// Before the first start nothing is open.
+// Before the first start nothing is open, and starts choose edition 1.
 pub fn fresh_run(times: u64, work: u64, image: u64) -> Run {
-    let mut run = [0u64; 20];
+    let mut run = [0u64; 22];
     run[CLOSED] = 1;
+    run[CHOSEN] = 1;
     run[TIMES] = times;
     run[WORK] = work;
     run[IMAGE] = image;
@@ -104,10 +112,20 @@ pub fn state_of(run: &Run) -> Encoder {
         work: run[USED],
         image: low(run[TOTAL]),
         blocks: low(run[BLOCKS]),
+        edition: low(run[EDITION]),
         skips: ProbeSkip {
             on: run[SKIP] != 0,
             count: low(run[SKIPPED]),
         },
+    }
+}
+
+// What a start is given: its two numbers, and the edition chosen.
+pub fn settings_of(run: &Run) -> Settings {
+    Settings {
+        limit: low(run[SECOND]),
+        signals: low(run[FIRST]),
+        edition: low(run[CHOSEN]),
     }
 }
 
@@ -118,6 +136,11 @@ fn flag(b: bool) -> u64 {
     0
 }
 
+fn put_skip(run: &mut Run, skips: ProbeSkip) {
+    run[SKIP] = flag(skips.on);
+    run[SKIPPED] = skips.count as u64;
+}
+
 fn put_state(run: &mut Run, state: Encoder) {
     run[CLOSED] = flag(state.closed);
     run[LIMIT] = state.limit as u64;
@@ -126,8 +149,8 @@ fn put_state(run: &mut Run, state: Encoder) {
     run[USED] = state.work;
     run[TOTAL] = state.image as u64;
     run[BLOCKS] = state.blocks as u64;
-    run[SKIP] = flag(state.skips.on);
-    run[SKIPPED] = state.skips.count as u64;
+    run[EDITION] = state.edition as u64;
+    put_skip(run, state.skips)
 }
 
 fn place_of(answer: Answer) -> u64 {
@@ -173,10 +196,17 @@ pub fn lend(run: &mut Run, times: u64, work: u64, image: u64) {
     run[IMAGE] = image;
 }
 
+// The starts after it choose this edition.
+fn choose(run: &mut Run, edition: u32) {
+    run[CALL] = NOTHING;
+    run[CHOSEN] = edition as u64;
+}
+
 fn put_command(run: &mut Run, command: Command) {
     match command {
         Command::Nothing => run[CALL] = NOTHING,
         Command::Lend(times, work, image) => lend(run, times, work, image),
+        Command::Edition(edition) => choose(run, edition),
         Command::Start(signals, limit) => put_call(run, START, signals as u64, limit as u64),
         Command::Time(time) => put_call(run, TIME, time, 0),
         Command::Vcd(signal) => put_call(run, VCD, signal as u64, 0),

@@ -2,6 +2,7 @@
 
 use crate::history::{History, Load};
 use crate::memory::{Answer, BYTE, Memory, NUMBER, Recording, TIME, difference, step_line};
+use crate::opener::opened;
 use crate::ours::{self, Source};
 use crate::paper;
 use crate::random::Random;
@@ -13,6 +14,8 @@ pub struct Tally {
     pub recordings: u64,
     pub several_blocks: u64,
     pub calls: u64,
+    /// Times equal to the last one, right after one that went back.
+    pub returned: u64,
     pub blocks: u64,
     pub signals: u64,
     pub entries: u64,
@@ -42,7 +45,7 @@ fn needs(r: &Recording) -> Option<(usize, usize)> {
     let work = change * r.steps.len();
     let image = 16 + 4 * r.kinds.len() + (40 + 5 * r.kinds.len() + change) * r.steps.len();
     let mut m = Memory::fresh(&r.kinds, r.limit as usize, work, image);
-    paper::start(&mut m, r.limit.into(), r.kinds.len() as u32).ok()?;
+    paper::start(&mut m, r.limit.into(), r.kinds.len() as u32, r.edition).ok()?;
     let mut most = 0;
     for step in &r.steps {
         if !m.state.skip && paper::left_out(&r.kinds, step) {
@@ -67,9 +70,10 @@ fn both(m: &mut Memory, other: &mut Memory, step: &Step) -> Result<Answer, Strin
 fn made(r: &Recording, mut m: Memory, every: usize) -> Result<(Memory, Vec<Answer>, History), String> {
     let mut other = m.clone();
     let (limit, signals) = (u32::from(r.limit), r.kinds.len() as u32);
-    agree("start", ours::start(&mut m, limit, signals), Answer::Started)?;
-    paper::start(&mut other, limit, signals).map_err(|_| "document 01 refuses the start")?;
-    let mut history = History::new(&r.kinds);
+    let answer = ours::start(&mut m, limit, signals, r.edition);
+    agree("start", answer, Answer::Started)?;
+    paper::start(&mut other, limit, signals, r.edition).map_err(|_| "document 01 refuses the start")?;
+    let mut history = History::new(r.edition, &r.kinds);
     let mut answers = Vec::new();
     for (number, step) in r.steps.iter().enumerate() {
         let at = || format!("call {} ({:.60})", number + 1, step_line(step));
@@ -297,7 +301,31 @@ fn askable(step: &Step) -> bool {
     !matches!(step, Step::Change(u32::MAX, _) | Step::Change(_, Value::Raw(3.., _)))
 }
 
-/// A recording whose calls may be refused, on lent memory: the Rust is given the calls that are not. Answers the image, if there is one.
+/// The Rust on the calls that were not refused: its answers, the image, and what it loads.
+fn with_rust(r: &Recording, answers: &[Answer], image: &[u8], history: &History) -> Compared {
+    let asked = |(step, answer): &(&Step, &Answer)| !answer.refused() && askable(step);
+    let given = || r.steps.iter().zip(answers).filter(asked);
+    let steps: Vec<Step> = given().map(|(step, _)| step.clone()).collect();
+    let made = whole(r.edition, r.limit, &r.kinds, &steps).ok_or("the Rust panics")?;
+    let changes = given().filter(|(step, _)| **step != Step::Finish);
+    let words: Vec<&str> = changes.map(|(_, answer)| answer.word()).collect();
+    none(
+        "answers of ours and of the Rust",
+        difference("answer", &words, &made.answers),
+    )?;
+    rust(&made, image, &r.kinds, history)
+}
+
+/// How often a time went back and the next one was the last one again.
+fn returned(answers: &[Answer]) -> u64 {
+    let of_time = |answer: &Answer| matches!(answer, Answer::Taken | Answer::Same | Answer::Back);
+    let times: Vec<Answer> = answers.iter().copied().filter(of_time).collect();
+    let returns = times.windows(2).filter(|pair| **pair == [Answer::Back, Answer::Same]);
+    returns.count() as u64
+}
+
+/// A recording whose calls may be refused, on lent memory. The Rust is asked in edition 1, the only one that it knows; of edition 2, "the same
+/// opener accepts" the image. Answers the image, if there is one.
 pub fn on_memory(
     r: &Recording,
     m: Memory,
@@ -307,25 +335,20 @@ pub fn on_memory(
 ) -> Result<Option<Vec<u8>>, String> {
     let (m, answers, history) = made(r, m, every)?;
     tally.calls += r.steps.len() as u64;
+    tally.returned += returned(&answers);
     let Some(Answer::Finished(total)) = answers.iter().find(|a| matches!(a, Answer::Finished(_))) else {
         return Ok(None);
     };
     let image = &m.image[..*total as usize];
-    let asked = |(step, answer): &(&Step, &Answer)| !answer.refused() && askable(step);
-    let given = || r.steps.iter().zip(&answers).filter(asked);
-    let steps: Vec<Step> = given().map(|(step, _)| step.clone()).collect();
-    let made = whole(r.limit, &r.kinds, &steps).ok_or("the Rust panics")?;
-    let changes = given().filter(|(step, _)| **step != Step::Finish);
-    let words: Vec<&str> = changes.map(|(_, answer)| answer.word()).collect();
-    none(
-        "answers of ours and of the Rust",
-        difference("answer", &words, &made.answers),
-    )?;
     read(image, &r.kinds, &history, random, tally)?;
-    rust(&made, image, &r.kinds, &history)?;
+    if r.edition == 1 {
+        with_rust(r, &answers, image, &history)?;
+    } else {
+        agree("opener by the papers", opened(image).is_some(), true)?;
+    }
     tally.recordings += 1;
-    tally.blocks += made.streams.len() as u64;
-    tally.several_blocks += u64::from(made.streams.len() > 1);
+    tally.blocks += u64::from(m.state.blocks);
+    tally.several_blocks += u64::from(m.state.blocks > 1);
     Ok(Some(image.to_vec()))
 }
 

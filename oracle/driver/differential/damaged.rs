@@ -169,7 +169,7 @@ fn double_edit(image: &[u8], random: &mut Random) -> Vec<u8> {
 
 /// What a recording leaves.
 fn left(r: &Recording) -> Vec<u8> {
-    whole(r.limit, &r.kinds, &r.steps).expect("no refusal").image
+    whole(r.edition, r.limit, &r.kinds, &r.steps).expect("no refusal").image
 }
 
 /// One recording, often of several blocks.
@@ -180,6 +180,7 @@ fn lone(random: &mut Random) -> Vec<u8> {
     let mut generator = Generator::new(random, kinds);
     let steps = generator.calls(calls, 40);
     left(&Recording {
+        edition: generator.edition,
         limit,
         kinds: generator.kinds,
         steps,

@@ -32,6 +32,8 @@ pub const REALS: [u64; 20] = [
 
 pub struct Generator<'a> {
     pub random: &'a mut Random,
+    /// Of the skip rule.
+    pub edition: u32,
     pub kinds: Vec<u32>,
     pub last: Option<u64>,
     pub skip: bool,
@@ -45,6 +47,7 @@ impl<'a> Generator<'a> {
     pub fn new(random: &'a mut Random, kinds: Vec<u32>) -> Self {
         Generator {
             random,
+            edition: 1,
             kinds,
             last: None,
             skip: false,
@@ -102,7 +105,7 @@ impl<'a> Generator<'a> {
         };
         match self.last {
             Some(last) if time < last => self.skip = true,
-            Some(last) if time == last => {}
+            Some(last) if time == last => self.skip = self.skip && self.edition == 1,
             _ => (self.last, self.skip) = (Some(time), false),
         }
         Step::Time(time)
@@ -320,15 +323,17 @@ pub fn kinds(random: &mut Random, kind: fn(&mut Random) -> u32) -> Vec<u32> {
 }
 
 /// A recording without a refusal.
-pub fn recording(random: &mut Random) -> Recording {
+pub fn recording(random: &mut Random, edition: u32) -> Recording {
     let any = random.from_to(2, 300) as u16;
     let limit = random.of(&[2, 2, 2, 3, 3, 4, 5, 7, 16, any, any, 65_535]);
     let kinds = kinds(random, any_kind);
     let calls = if random.chance(1) { 0 } else { random.from_to(6, 38) };
     let share = random.of(&[25, 40, 60]);
     let mut generator = Generator::new(random, kinds);
+    generator.edition = edition;
     let steps = generator.calls(calls, share);
     Recording {
+        edition,
         limit,
         kinds: generator.kinds,
         steps,
@@ -340,6 +345,7 @@ fn short(generator: &mut Generator, limit: u16) -> Recording {
     let calls = generator.random.of(&[0, 1, 1, 2, 4, 7, 10, 14]);
     let share = generator.random.of(&[25, 40, 60]);
     Recording {
+        edition: generator.edition,
         limit,
         steps: generator.calls(calls, share),
         kinds: generator.kinds.clone(),
@@ -396,6 +402,7 @@ pub fn long(random: &mut Random) -> Recording {
     }
     steps.push(Step::Finish);
     Recording {
+        edition: generator.edition,
         limit: 65_535,
         kinds: generator.kinds,
         steps,

@@ -1,5 +1,5 @@
-//! Document 01, 'History': what a list of calls says, told of the calls and of which were refused, never of the state; and document 02's "one
-//! history after the other".
+//! Document 01, 'History': what a list of calls says, told of the calls and of which were refused, never of the state; and document 02's
+//! "history under edition 2 is read with its rule" and "one history after the other".
 
 use crate::memory::{Answer, Recording};
 use crate::paper::decode;
@@ -16,6 +16,7 @@ pub struct Change {
 
 #[derive(Clone)]
 pub struct History {
+    edition: u32,
     kinds: Vec<u32>,
     pub times: Vec<u64>,
     changes: Vec<Vec<Change>>,
@@ -32,8 +33,9 @@ pub struct Load {
 }
 
 impl History {
-    pub fn new(kinds: &[u32]) -> Self {
+    pub fn new(edition: u32, kinds: &[u32]) -> Self {
         History {
+            edition,
             kinds: kinds.to_vec(),
             times: Vec::new(),
             changes: kinds.iter().map(|_| Vec::new()).collect(),
@@ -44,7 +46,7 @@ impl History {
 
     /// Of a recording without a refusal.
     pub fn of(r: &Recording) -> Self {
-        let mut history = History::new(&r.kinds);
+        let mut history = History::new(r.edition, &r.kinds);
         for step in &r.steps {
             history.tell(step, false);
         }
@@ -96,7 +98,12 @@ impl History {
 
     fn time(&mut self, time: u64) -> Answer {
         match self.times.last() {
-            Some(last) if time == *last => Answer::Same,
+            Some(last) if time == *last => {
+                if self.edition == 2 {
+                    self.skip = false;
+                }
+                Answer::Same
+            }
             Some(last) if time < *last => {
                 self.skip = true;
                 Answer::Back

@@ -25,6 +25,7 @@ fn wide(random: &mut Random, count: usize) -> Vec<Recording> {
         }
         steps.push(Step::Finish);
         Recording {
+            edition: generator.edition,
             limit,
             kinds: generator.kinds.clone(),
             steps,
@@ -46,6 +47,7 @@ fn reals(limit: u16) -> Recording {
     }
     steps.push(Step::Finish);
     Recording {
+        edition: 1,
         limit,
         kinds: vec![REAL],
         steps,
@@ -57,6 +59,7 @@ fn at_times(limit: u16, times: &[u64]) -> Recording {
         .iter()
         .flat_map(|time| [Step::Time(*time), Step::Change(0, Value::Vcd(b"1x".to_vec()))]);
     Recording {
+        edition: 1,
         limit,
         kinds: vec![2],
         steps: calls.chain([Step::Finish]).collect(),
@@ -88,6 +91,7 @@ fn late(limit: u16) -> Recording {
 fn many(first: u64) -> Recording {
     let bit = |signal: u32, value: &[u8]| Step::Change(signal, Value::Vcd(value.to_vec()));
     Recording {
+        edition: 1,
         limit: 2,
         kinds: (0..65_536).map(|n| if n % 3 == 1 { ABSENT } else { 1 }).collect(),
         steps: vec![
@@ -203,11 +207,11 @@ pub fn image_limit(tally: &mut Refusals) -> Compared {
         ..State::default()
     };
     let mut state = before;
-    let answer = ours::start_on(&mut state, 2, 1, &mut records, &mut times, mapped.bytes(MOST + 1));
+    let answer = ours::start_on(&mut state, 2, 1, 1, &mut records, &mut times, mapped.bytes(MOST + 1));
     agree("start over the limit", answer, Answer::Refused(1))?;
     tally.count(&["1 image buffer over the limit"]);
     agree("state, pages touched", (state, mapped.touched()), (before, 0))?;
-    let answer = ours::start_on(&mut state, 2, 1, &mut records, &mut times, mapped.bytes(MOST));
+    let answer = ours::start_on(&mut state, 2, 1, 1, &mut records, &mut times, mapped.bytes(MOST));
     agree("start at the limit", answer, Answer::Started)?;
     agree("pages touched", mapped.touched(), 1)?;
     let mut m = (state, records, times, [0; 64]);
@@ -235,6 +239,7 @@ pub fn last_byte(tally: &mut Refusals) -> Compared {
             signals: 1,
             held: 1,
             image: used as u32,
+            edition: 1,
             ..State::default()
         };
         let before = state;
@@ -314,8 +319,8 @@ pub fn joined_total(whole: bool, tally: &mut Refusals) -> Compared {
     agree("second image and a byte past it", &out[first.len()..], &end[..])
 }
 
-/// "32 bits, then the count stays at its top".
-pub fn skipped_count() -> Compared {
+/// "32 bits, then the count stays at its top", in an edition.
+pub fn skipped_count(edition: u32) -> Compared {
     let (mut records, mut times, mut work, mut image) = ([event()], [9, 0], [0; 64], [0; 64]);
     let skipped = u32::MAX - 1;
     let mut state = State {
@@ -325,6 +330,7 @@ pub fn skipped_count() -> Compared {
         image: 20,
         skip: true,
         skipped,
+        edition,
         ..State::default()
     };
     for _ in 0..3 {

@@ -16,7 +16,7 @@ mod refusals;
 mod value;
 mod values;
 
-use compare::{Compared, Tally};
+use compare::{Compared, Tally, agree};
 use damaged::Damaged;
 use joins::Joins;
 use memory::Recording;
@@ -37,6 +37,7 @@ struct Size {
     recordings: u64,
     longs: usize,
     mixed: u64,
+    editions: u64,
     altered: u64,
     joins: u64,
     wides: u64,
@@ -51,6 +52,7 @@ const SIZES: [Size; 2] = [
         recordings: 16_000,
         longs: 1,
         mixed: 6_000,
+        editions: 6_000,
         altered: 6_000,
         joins: 6_000,
         wides: 1,
@@ -63,6 +65,7 @@ const SIZES: [Size; 2] = [
         recordings: 100_000,
         longs: 20,
         mixed: 30_000,
+        editions: 60_000,
         altered: 60_000,
         joins: 60_000,
         wides: 8,
@@ -76,6 +79,8 @@ struct Run {
     seed: u64,
     values: Values,
     tally: Tally,
+    /// Of edition 2.
+    second: Tally,
     refusals: Refusals,
     joins: Joins,
     damaged: Damaged,
@@ -89,6 +94,7 @@ impl Run {
             seed,
             values: Values::default(),
             tally: Tally::default(),
+            second: Tally::default(),
             refusals: Refusals::new(),
             joins: Joins::default(),
             damaged: Damaged::default(),
@@ -107,7 +113,12 @@ impl Run {
     }
 
     fn recording(&mut self, r: &Recording, random: &mut Random) -> Compared {
-        let result = compare::recording(r, 1, random, &mut self.tally);
+        let tally = if r.edition == 1 {
+            &mut self.tally
+        } else {
+            &mut self.second
+        };
+        let result = compare::recording(r, 1, random, tally);
         result.map(|_| ()).map_err(|e| {
             let differs = |r: &Recording| {
                 let mut random = Random::new("smaller", 0, 0);
@@ -115,6 +126,15 @@ impl Run {
             };
             format!("{e}\n{}", compare::smaller(r, differs))
         })
+    }
+
+    /// Edition 2, half of the recordings with refused calls between.
+    fn edition_2(&mut self, random: &mut Random) -> Compared {
+        if random.chance(50) {
+            return refusals::mixed(random, 2, &mut self.second);
+        }
+        let r = generate::recording(random, 2);
+        self.recording(&r, random)
     }
 
     /// One item of a group that has items.
@@ -126,10 +146,11 @@ impl Run {
                 self.value(kind, index, &value)
             }
             "recordings" => {
-                let r = generate::recording(random);
+                let r = generate::recording(random, 1);
                 self.recording(&r, random)
             }
-            "mixed" => refusals::mixed(random, &mut self.tally),
+            "mixed" => refusals::mixed(random, 1, &mut self.tally),
+            "editions" => self.edition_2(random),
             "altered" => refusals::altered(random, &mut self.refusals),
             "joined-limits" => joins::limits(random, item as usize, &mut self.joins, &mut self.refusals),
             "joins" => joins::item(random, &mut self.joins, &mut self.refusals),
@@ -167,11 +188,12 @@ impl Run {
             "single values: {asked} ({bad} bad, {left_out} without the Rust: u, w or - extends them)"
         ));
         self.items("recordings", size.recordings)?;
-        self.passed(self.recorded());
+        self.passed(recorded(&self.tally));
         self.items("mixed", size.mixed)?;
-        self.passed(format!("with refused calls between: {}", self.recorded()));
+        self.passed(format!("with refused calls between: {}", recorded(&self.tally)));
         self.one("limits", size.longs as u64)?;
-        self.passed(format!("with the limits: {}", self.recorded()));
+        self.passed(format!("with the limits: {}", recorded(&self.tally)));
+        self.editions(size.editions)?;
         self.items("altered", size.altered)?;
         let (calls, refused) = (self.refusals.calls, self.refusals.refused);
         self.passed(format!("calls on states altered and not: {calls}, {refused} refused"));
@@ -191,29 +213,23 @@ impl Run {
         self.conditions()
     }
 
+    fn editions(&mut self, count: u64) -> Compared {
+        self.items("editions", count)?;
+        let (told, returned) = (recorded(&self.second), self.second.returned);
+        self.passed(format!(
+            "edition 2, without the Rust: {told}; {returned} skips ended by an equal time"
+        ));
+        agree("an equal time ended a skip", returned > 0, true)
+    }
+
     fn fixed(&mut self, whole: bool) -> Compared {
         refusals::signals(&mut self.refusals)?;
-        limits::skipped_count()?;
+        limits::skipped_count(1)?;
+        limits::skipped_count(2)?;
         limits::image_limit(&mut self.refusals)?;
         limits::last_byte(&mut self.refusals)?;
         limits::largest_image(whole)?;
         limits::joined_total(whole, &mut self.refusals)
-    }
-
-    fn recorded(&self) -> String {
-        let t = &self.tally;
-        format!(
-            "recordings: {} ({} of several blocks), {} calls, {} blocks, {} signals loaded, {} entries, {} cursors ({} before a signal's first change), {} refusals of the reader",
-            t.recordings,
-            t.several_blocks,
-            t.calls,
-            t.blocks,
-            t.signals,
-            t.entries,
-            t.cursors,
-            t.early,
-            t.reader_refusals
-        )
     }
 
     fn joined(&self) -> String {
@@ -242,13 +258,27 @@ impl Run {
 
     fn calls(&mut self, text: &str) -> Compared {
         let sheets = sheets(text).ok_or("a line is no call")?;
-        for (limit, kinds, steps) in sheets {
+        for (edition, limit, kinds, steps) in sheets {
             let random = &mut Random::new("calls", self.seed, 0);
-            self.recording(&Recording { limit, kinds, steps }, random)?;
+            let r = Recording {
+                edition,
+                limit,
+                kinds,
+                steps,
+            };
+            self.recording(&r, random)?;
         }
-        self.say(&self.recorded());
+        self.say(&recorded(&self.tally));
+        self.say(&format!("edition 2, without the Rust: {}", recorded(&self.second)));
         Ok(())
     }
+}
+
+fn recorded(t: &Tally) -> String {
+    format!(
+        "recordings: {} ({} of several blocks), {} calls, {} blocks, {} signals loaded, {} entries, {} cursors ({} before a signal's first change), {} refusals of the reader",
+        t.recordings, t.several_blocks, t.calls, t.blocks, t.signals, t.entries, t.cursors, t.early, t.reader_refusals
+    )
 }
 
 fn number(word: &str) -> u64 {

@@ -20,6 +20,8 @@ pub struct State {
     pub blocks: u32,
     pub skip: bool,
     pub skipped: u32,
+    /// Of the skip rule.
+    pub edition: u32,
 }
 
 #[derive(Clone, Copy, Debug, PartialEq)]
@@ -121,9 +123,10 @@ impl Answer {
     }
 }
 
-/// A recording's calls after a start with this limit and these kinds.
+/// A recording's calls after a start with this edition of the skip rule, this limit and these kinds.
 #[derive(Clone, Debug)]
 pub struct Recording {
+    pub edition: u32,
     pub limit: u16,
     pub kinds: Vec<u32>,
     pub steps: Vec<Step>,
@@ -153,10 +156,11 @@ pub fn step_line(step: &Step) -> String {
     }
 }
 
-/// The form that `oracle recordings` reads.
+/// The form that `oracle recordings` reads, if the edition is 1.
 impl Display for Recording {
     fn fmt(&self, f: &mut Formatter<'_>) -> fmt::Result {
         let kinds: String = self.kinds.iter().map(|k| " ".to_string() + &kind_word(*k)).collect();
+        writeln!(f, "edition {}", self.edition)?;
         write!(f, "start {} {}{kinds}", self.kinds.len(), self.limit)?;
         self.steps
             .iter()

@@ -106,7 +106,9 @@ fn read_off(image: &[u8]) -> Option<Vec<Recording>> {
     let (signals, limit, blocks, _) = (bytes.u32()?, bytes.u32()?, bytes.u32()?, bytes.u32()?);
     let kinds = (0..signals).map(|_| bytes.u32()).collect::<Option<Vec<u32>>>()?;
     let limit = u16::try_from(limit).ok()?;
+    // an image tells nothing of the edition, and these calls have no skip
     let recording = |steps| Recording {
+        edition: 1,
         limit,
         kinds: kinds.clone(),
         steps,
@@ -124,7 +126,7 @@ fn left(r: &Recording, room: usize) -> Option<Vec<u8>> {
         times: vec![0; limit as usize], // zeros cost least
         ..Memory::fresh(&r.kinds, 0, 16 * room, room)
     };
-    paper::start(&mut m, limit, r.kinds.len() as u32).ok()?;
+    paper::start(&mut m, limit, r.kinds.len() as u32, r.edition).ok()?;
     let mut last = Answer::Started;
     for step in &r.steps {
         last = paper::step(&mut m, step).ok()?;

@@ -2,7 +2,7 @@
 
 use crate::memory::{Answer, Memory, Record, State};
 use crate::value::Content;
-use wejumo::{Cursor, Entry, Image, Kind, Loaded, Recorder, Refusal, States};
+use wejumo::{Cursor, Edition, Entry, Image, Kind, Loaded, Recorder, Refusal, States};
 use wellen::oracle::whole::{Step, Value};
 
 /// A record as it is stored: kind + 2^32 x (3 x index + class).
@@ -30,6 +30,7 @@ fn given(s: &State) -> wejumo::State {
         blocks: s.blocks,
         skip: s.skip.into(),
         skipped: s.skipped,
+        edition: s.edition,
     }
 }
 
@@ -44,6 +45,7 @@ fn kept(s: wejumo::State) -> State {
         blocks: s.blocks,
         skip: s.skip != 0,
         skipped: s.skipped,
+        edition: s.edition,
     }
 }
 
@@ -67,12 +69,13 @@ struct Outcome {
     state: wejumo::State,
 }
 
-// The Rust interface gives a start the number of records; here it may be any other.
+// The Rust interface gives a start the number of records, and an edition that there is; here they may be any other.
 unsafe extern "C" {
     fn wejumo_start(
         state: wejumo::State,
         limit: u32,
         signals: u32,
+        edition: u32,
         records: *mut u64,
         records_length: usize,
         times: *const u64,
@@ -82,23 +85,32 @@ unsafe extern "C" {
     ) -> Outcome;
 }
 
+fn known(edition: u32) -> Option<Edition> {
+    match edition {
+        1 => Some(Edition::One),
+        2 => Some(Edition::Two),
+        _ => None,
+    }
+}
+
 pub fn start_on(
     s: &mut State,
     limit: u32,
     signals: u32,
+    edition: u32,
     records: &mut [u64],
     times: &mut [u64],
     image: &mut [u8],
 ) -> Answer {
-    if signals as usize == records.len() {
+    if let (Some(edition), true) = (known(edition), signals as usize == records.len()) {
         let mut recorder = Recorder::resume(given(s), records, times, &mut [], image);
-        let said = recorder.start(limit);
+        let said = recorder.start(limit, edition);
         *s = kept(recorder.state());
         return answer(said);
     }
     let (r, t, i) = (records.as_mut_ptr(), times.as_ptr(), image.as_mut_ptr());
     let (rn, tn, n) = (records.len(), times.len(), image.len());
-    let done = unsafe { wejumo_start(given(s), limit, signals, r, rn, t, tn, i, n) };
+    let done = unsafe { wejumo_start(given(s), limit, signals, edition, r, rn, t, tn, i, n) };
     *s = kept(done.state);
     if done.answer == 1 {
         Answer::Started
@@ -134,9 +146,17 @@ fn on_records(m: &mut Memory, call: impl FnOnce(&mut Memory, &mut [u64]) -> Answ
     answer
 }
 
-pub fn start(m: &mut Memory, limit: u32, signals: u32) -> Answer {
+pub fn start(m: &mut Memory, limit: u32, signals: u32, edition: u32) -> Answer {
     on_records(m, |m, records| {
-        start_on(&mut m.state, limit, signals, records, &mut m.times, &mut m.image)
+        start_on(
+            &mut m.state,
+            limit,
+            signals,
+            edition,
+            records,
+            &mut m.times,
+            &mut m.image,
+        )
     })
 }
 

@@ -1,5 +1,5 @@
-//! The recorder of document 01 ('Recording', 'Block and image', 'Turned back'), read a second time: on any state and any
-//! lent memory it says the answer and what all memory holds afterwards.
+//! The recorder of document 01 ('Recording', 'Block and image', 'Turned back'), with document 02's second edition of the skip rule, read a
+//! second time: on any state and any lent memory it says the answer and what all memory holds afterwards.
 
 use crate::memory::{Answer, Memory, State};
 use crate::value::{Content, change_bytes, raw_symbols, vcd_symbols, vcd_text};
@@ -15,7 +15,7 @@ pub struct Turned {
 }
 
 /// All conditions, by the number of their refusal; those of a join are tested in join.rs.
-pub const CONDITIONS: [&str; 42] = [
+pub const CONDITIONS: [&str; 44] = [
     "1 B outside its range",
     "1 time buffer under B",
     "1 S over 65,536",
@@ -23,6 +23,7 @@ pub const CONDITIONS: [&str; 42] = [
     "1 unknown kind",
     "1 image buffer under the head",
     "1 image buffer over the limit",
+    "1 edition neither 1 nor 2",
     "2 closed",
     "3 change before any time",
     "4 number at or above S",
@@ -46,6 +47,7 @@ pub const CONDITIONS: [&str; 42] = [
     "10 blocks exceed used image bytes",
     "10 S is not the record count",
     "10 work used without a held time",
+    "10 edition neither 1 nor 2",
     "10 index beyond the last",
     "10 width over 65,536",
     "10 work ends in a record's head",
@@ -91,7 +93,11 @@ pub fn head(limit: u32, blocks: u32, total: u32, kinds: &[u32]) -> Vec<u8> {
         .collect()
 }
 
-pub fn start(m: &mut Memory, limit: u32, signals: u32) -> Said {
+fn no_edition(number: u32) -> bool {
+    number != 1 && number != 2
+}
+
+pub fn start(m: &mut Memory, limit: u32, signals: u32, edition: u32) -> Said {
     let size = 16 + 4 * u64::from(signals);
     turn(
         1,
@@ -103,6 +109,7 @@ pub fn start(m: &mut Memory, limit: u32, signals: u32) -> Said {
             (m.records.iter().any(|r| too_wide(r.kind)), "1 unknown kind"),
             ((m.image.len() as u64) < size, "1 image buffer under the head"),
             (m.image.len() as u64 > IMAGE_LIMIT, "1 image buffer over the limit"),
+            (no_edition(edition), "1 edition neither 1 nor 2"),
         ],
     )?;
     let kinds: Vec<u32> = m.records.iter().map(|record| record.kind).collect();
@@ -114,6 +121,7 @@ pub fn start(m: &mut Memory, limit: u32, signals: u32) -> Said {
         limit,
         signals,
         image: size as u32,
+        edition,
         ..State::default()
     };
     Ok(Answer::Started)
@@ -138,6 +146,7 @@ fn open_and_sound(m: &Memory) -> Result<(), Turned> {
             (s.blocks > s.image, "10 blocks exceed used image bytes"),
             (s.signals as usize != m.records.len(), "10 S is not the record count"),
             (s.work > 0 && s.held == 0, "10 work used without a held time"),
+            (no_edition(s.edition), "10 edition neither 1 nor 2"),
         ],
     )
 }
@@ -207,6 +216,9 @@ fn time(m: &mut Memory, time: u64) -> Said {
     if held > 0 {
         let last = m.times[held - 1];
         if time == last {
+            if m.state.edition == 2 {
+                m.state.skip = false;
+            }
             return Ok(Answer::Same);
         }
         if time < last {

@@ -78,14 +78,14 @@ fn step(m: &mut Memory, step: &Step, tally: &mut Refusals) -> Result<Answer, Str
     )
 }
 
-fn start(m: &mut Memory, limit: u32, signals: u32, tally: &mut Refusals) -> Result<Answer, String> {
-    let name = format!("start {signals} {limit}");
+fn start(m: &mut Memory, limit: u32, signals: u32, edition: u32, tally: &mut Refusals) -> Result<Answer, String> {
+    let name = format!("edition {edition}, start {signals} {limit}");
     compared(
         m,
         &name,
         tally,
-        |m| ours::start(m, limit, signals),
-        |m| paper::start(m, limit, signals),
+        |m| ours::start(m, limit, signals, edition),
+        |m| paper::start(m, limit, signals, edition),
     )
 }
 
@@ -114,7 +114,7 @@ fn near(random: &mut Random, n: u64, limit: u64) -> u64 {
 fn alter_state(m: &mut Memory, random: &mut Random) {
     let (work, image) = (m.work.len() as u64, m.image.len() as u64);
     let s = &mut m.state;
-    match random.below(9) {
+    match random.below(10) {
         0 => s.closed = !s.closed,
         1 => s.limit = random.of(&[0, 1, 2, 3, 65_535, 65_536, u32::MAX, s.held, s.held.wrapping_sub(1)]),
         2 => s.signals = near(random, s.signals.into(), 65_536) as u32,
@@ -123,6 +123,7 @@ fn alter_state(m: &mut Memory, random: &mut Random) {
         5 => s.image = near(random, s.image.into(), image) as u32,
         6 => s.blocks = near(random, s.blocks.into(), s.image.into()) as u32,
         7 => s.skip = !s.skip,
+        8 => s.edition = random.of(&[0, 1, 2, 3, u32::MAX]),
         _ => s.skipped = random.of(&[0, u32::MAX - 1, u32::MAX]),
     }
 }
@@ -219,7 +220,8 @@ fn starts(random: &mut Random, tally: &mut Refusals) -> Compared {
     let (mut m, limit) = memory(random);
     let mut signals = m.records.len() as u32;
     let mut limit = random.of(&[limit, limit, 0, 1, 2, 65_535, 65_536, u32::MAX]);
-    match random.below(8) {
+    let mut edition = random.of(&[1, 2]);
+    match random.below(9) {
         0 => signals = random.of(&[0, signals + 1, 65_536, 65_537, u32::MAX]),
         1 => alter_record(&mut m, random),
         2 => m.image.truncate(16 + 4 * m.records.len() - random.below(2)),
@@ -227,22 +229,25 @@ fn starts(random: &mut Random, tally: &mut Refusals) -> Compared {
         4 => m.times.truncate(limit as usize % 70_000 - usize::from(limit > 0)),
         5 => alter_lengths(&mut m, random),
         6 => limit = random.of(&[m.times.len() as u32, m.times.len() as u32 + 1]),
+        7 => edition = random.of(&[0, 3, u32::MAX]),
         _ => {}
     }
     alter_state(&mut m, random);
-    start(&mut m, limit, signals, tally).map(|_| ())
+    start(&mut m, limit, signals, edition, tally).map(|_| ())
 }
 
-/// A start, calls of all forms, and from each state left altered ones with calls on them.
+/// A start in either edition, calls of all forms, and from each state left altered ones with calls on them.
 pub fn altered(random: &mut Random, tally: &mut Refusals) -> Compared {
     starts(random, tally)?;
     let (mut m, limit) = memory(random);
     let signals = m.records.len() as u32;
-    if start(&mut m, limit, signals, tally)?.refused() {
+    let edition = random.of(&[1, 2]);
+    if start(&mut m, limit, signals, edition, tally)?.refused() {
         return Ok(());
     }
     let kinds: Vec<u32> = m.records.iter().map(|record| record.kind).collect();
     let mut generator = Generator::new(random, kinds);
+    generator.edition = edition;
     for _ in 0..12 {
         let call = any_step(&mut generator);
         step(&mut m, &call, tally)?;
@@ -267,7 +272,7 @@ pub fn altered(random: &mut Random, tally: &mut Refusals) -> Compared {
 pub fn signals(tally: &mut Refusals) -> Compared {
     for (records, signals) in [(65_536, 65_536), (65_537, 65_537), (65_536, 65_535)] {
         let mut m = Memory::fresh(&vec![1; records], 2, 0, 16 + 4 * 65_537);
-        start(&mut m, 2, signals, tally)?;
+        start(&mut m, 2, signals, 1, tally)?;
     }
     Ok(())
 }
@@ -282,14 +287,15 @@ fn asked_change(generator: &mut Generator) -> Step {
     }
 }
 
-/// A recording with refused calls in it, in buffers that are often too small: a refused call spoils only itself, and the Rust, given the
-/// calls that were not refused, leaves the same image.
-pub fn mixed(random: &mut Random, tally: &mut Tally) -> Compared {
+/// A recording with refused calls in it, in buffers that are often too small: a refused call spoils only itself, and in edition 1 the Rust,
+/// given the calls that were not refused, leaves the same image.
+pub fn mixed(random: &mut Random, edition: u32, tally: &mut Tally) -> Compared {
     let (mut m, limit) = memory(random);
     m.image.resize(random.from_to(60, 3000), BYTE);
     let kinds: Vec<u32> = m.records.iter().map(|record| record.kind).collect();
     let calls = random.from_to(4, 40);
     let mut generator = Generator::new(random, kinds.clone());
+    generator.edition = edition;
     let call = |generator: &mut Generator| {
         if generator.random.chance(35) {
             generator.time(false)
@@ -300,6 +306,7 @@ pub fn mixed(random: &mut Random, tally: &mut Tally) -> Compared {
     let mut steps: Vec<Step> = (0..calls).map(|_| call(&mut generator)).collect();
     steps.extend([Step::Finish, Step::Finish, Step::Time(u64::MAX)]);
     let r = Recording {
+        edition,
         limit: limit as u16,
         kinds,
         steps,

@@ -52,7 +52,7 @@ pub fn value(kind: u32, index: u32, value: &Value, tally: &mut Values) -> Compar
     }
     let mut m = memory(kind, index, value);
     let limit = m.times.len() as u32;
-    agree("start", ours::start(&mut m, limit, 1), Answer::Started)?;
+    agree("start", ours::start(&mut m, limit, 1, 1), Answer::Started)?;
     m.state.held = index + 1;
     (0..=u64::from(index)).for_each(|time| m.times[time as usize] = time);
     let before = m.clone();
@@ -100,6 +100,7 @@ pub fn as_recording(kind: u32, index: u32, value: &Value) -> Recording {
     let times = (0..=u64::from(index)).map(Step::Time);
     let change = Step::Change(0, value.clone());
     Recording {
+        edition: 1,
         limit: 65_535,
         kinds: vec![kind],
         steps: times.chain([change, Step::Finish]).collect(),

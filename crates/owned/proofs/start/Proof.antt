@@ -119,7 +119,7 @@ module _ {M : Type 1} (𝓤 : URA M) (H : Heap 𝓤) (A : Atoms 𝓤) (W : Given
   abbrev to-whole : Outcome → List SignalRecord → Val → Whole 𝓤 H A mem run .Ghost
   to-whole h zs v = ((tt, tt, tt, (h, (zs, tt)), (LL.val O.the-type O′.the-laws h ∷ [], (v ∷ [], tt))), tt)
 
-  exits : (k : Kept) (ms′ : List ℕ) → after (replyOf (k .outcome .answer)) (memory (k .outcome .state) (k .records) ts [] ms′) ≡ startOf (settings .limit) (settings .signals) (memory state kept ts [] ms)
+  exits : (k : Kept) (ms′ : List ℕ) → after (replyOf (k .outcome .answer)) (memory (k .outcome .state) (k .records) ts [] ms′) ≡ startOf settings (memory state kept ts [] ms)
       → length ms′ ≡ length ms → Is Kp.the-row k (LL.val Kp.the-type Kp′.the-laws k ∷ []) → ent 𝓤 (⋆ 𝓤 H A (‵ (flft κt qt) ∷ ‵ (flft κm qm) ∷ ‵ (ShrSlice (named 0) κt u64 .own (xt γt ts) (vt ∷ [])) ∷ ‵ (finally u8 γm ms′) ∷ [])) (Post (LL.val Kp.the-type Kp′.the-laws k))
   exits k ms′ e lenm is =
       qed W (‵ (flft κt qt) ∷ ‵ (flft κm qm) ∷ ‵ (ShrSlice (named 0) κt u64 .own (xt γt ts) (vt ∷ [])) ∷ ‵ (finally u8 γm ms′) ∷ []) ∵
@@ -155,8 +155,8 @@ module _ {M : Type 1} (𝓤 : URA M) (H : Heap 𝓤) (A : Atoms 𝓤) (W : Given
       calls-at ! (fmOf 𝓤 H (W .laws) 𝓣) (Go 𝓤 H A mem run) kg (to-go l₆ ν δ) (and-then ! (load ! (from ! (stop !)) (look ! 24 refl)) (and-then ! (load ! (from ! (stop !)) (look ! 22 refl)) (and-then ! (load ! (from ! (stop !)) (look ! 9 refl)) (and-then ! (load ! (from ! (stop !)) (look ! 18 refl)) (and-then ! (load ! (from ! (stop !)) (look ! 5 refl)) (no-more !)))))) (λ u.
       use1 W (later (some (λ (h : Outcome). ((‵ (flft (ν ∷ []) fullShare) ⊛ ‵ (flft κt qt) ⊛ ‵ (flft κm qm) ⊛ ‵ ftrue) ⊛ ‵ (O.the-row .own h (u ∷ []))) ⊛ raw (ensured 𝓤 H A go.ended (go.clauses 𝓤 H A mem run) (ν ∷ [], (κt, (κm, tt))) (passed l₆ δ) tt h)))) (id⊢ 𝓤 _) $ await ! tt $ pick ! (λ h.
       split ! $ move ! (1 ∷ []) $
-      use1 W (some (λ (zs : Unit {0} × (Unit {0} × (List SignalRecord × (Unit {0} × (List ℕ × Unit {0}))))). ‵ (lasts go.ended (ν ∷ [], (κt, (κm, tt))) (passed l₆ δ) zs) ⊛ raw (fact 𝓤 (after (replyOf (h .answer)) (memory (h .state) (zs .1 .1 .0) ts [] (zs .1 .1 .1 .1 .0)) ≡ startOf (settings .limit) (settings .signals) (memory state kept ts [] ms))))) (id⊢ 𝓤 _) $ pick ! (λ zs.
-      split ! $ move ! (1 ∷ []) $ heard ! (after (replyOf (h .answer)) (memory (h .state) (zs .1 .1 .0) ts [] (zs .1 .1 .1 .1 .0)) ≡ startOf (settings .limit) (settings .signals) (memory state kept ts [] ms)) (λ e.
+      use1 W (some (λ (zs : Unit {0} × (Unit {0} × (List SignalRecord × (Unit {0} × (List ℕ × Unit {0}))))). ‵ (lasts go.ended (ν ∷ [], (κt, (κm, tt))) (passed l₆ δ) zs) ⊛ raw (fact 𝓤 (after (replyOf (h .answer)) (memory (h .state) (zs .1 .1 .0) ts [] (zs .1 .1 .1 .1 .0)) ≡ startOf settings (memory state kept ts [] ms))))) (id⊢ 𝓤 _) $ pick ! (λ zs.
+      split ! $ move ! (1 ∷ []) $ heard ! (after (replyOf (h .answer)) (memory (h .state) (zs .1 .1 .0) ts [] (zs .1 .1 .1 .1 .0)) ≡ startOf settings (memory state kept ts [] ms)) (λ e.
       fsplit ! $ drop ! $ fsplit ! $ drop ! $ fsplit ! $ fsplit ! $ move ! (1 ∷ []) $ feqL ! (λ lr. move ! (1 ∷ []) $ fsplit ! $ drop ! $ fsplit ! $ fsplit ! $ move ! (1 ∷ []) $
       feqL ! (λ lm. move ! (1 ∷ []) $ drop ! $ move ! (2 ∷ []) $ split ! $ move ! (1 ∷ []) $ peeks ! O.the-row (Is O.the-row) (shows 𝓤 H A O.the-row) h (u ∷ []) (λ is.
       land ! (from ! (stop !)) (init ! 16 refl (LL.lawful O.the-type O′.the-laws 𝓤 H A W .typed h _ is .0)) $

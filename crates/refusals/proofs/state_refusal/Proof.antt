@@ -7,8 +7,8 @@ use borrow.Author.Needs.{needs}
 use Rattle.refusals.proofs.state_refusal.Statement.{statement}
 use Rattle.refusals.proofs.state_refusal.Tie as tie
 
-cast-if5 : tie.Need-cast-if5
-cast-if5 c = search needs
+cast-if7 : tie.Need-cast-if7
+cast-if7 c = search needs
 
 counts-refusal-requires : tie.Need-counts-refusal-requires
 counts-refusal-requires c κs = search needs
@@ -31,25 +31,36 @@ returns-4 c = search (tests, c .before .before .before .before .before .before .
 
 returns-5 : tie.Need-returns-5
 unfolding stateTests
-returns-5 c = search (tests, c .before .before .before .before .before .before .before .before .before .if1 .left)
+returns-5 c = search (tests, c .before .before .before .before .before .before .before .before .if1 .left)
 
 returns-6 : tie.Need-returns-6
-returns-6 c =
-    let a = c .before .before .before .before .before .before .before .before .before .before .before .args in
+unfolding stateTests
+returns-6 c = search (tests, c .before .before .before .before .before .before .before .before .before .before .if1 .left)
+
+returns-7 : tie.Need-returns-7
+unfolding stateTests
+returns-7 c = search (tests, c .before .before .before .before .before .before .before .before .before .before .before .before .before .if1 .left)
+
+returns-8 : tie.Need-returns-8
+returns-8 c =
+    let a = c .before .before .before .before .before .before .before .before .before .before .before .before .before .before .before .args in
     let s = a .state in
     let past = limits-past s (a .lent .records) (a .lent .times) (a .work) (a .lent .image)
-    (c .before .before .before .before .before .before .before .before .before .before .if1 .left) (omega arith) (omega arith) (omega arith) (omega arith) in
+    (c .before .before .before .before .before .before .before .before .before .before .before .before .before .before .if1 .left)
+    (omega arith) (omega arith) (omega arith) (omega arith) (omega arith) (omega arith) in
     c .counts-refusal .ensures ∙ sym past
 
 pub state-refusal-spec : {M : Type 1} → statement M
 state-refusal-spec =
     tie.close
     (tie.spec
-    cast-if5
+    cast-if7
     counts-refusal-requires
     returns
     returns-2
     returns-3
     returns-4
     returns-5
-    returns-6)
+    returns-6
+    returns-7
+    returns-8)

@@ -124,7 +124,7 @@ module _ {M : Type 1} (𝓤 : URA M) (H : Heap 𝓤) (A : Atoms 𝓤) (W : Given
   unknown = unknownKind ys
 
   abbrev begun : Begun
-  begun = beginOf state (settings .limit) (settings .signals) unknown (length ys) (length ts) (length ms)
+  begun = beginOf state settings unknown (length ys) (length ts) (length ms)
 
   abbrev to-has : ℕ → GName → Has 𝓤 H A mem run .Ghost
   to-has ν δ = (((ν ∷ [], tt), (fullShare, tt), tt, (xr δ ys, tt), (vr ∷ [], tt)), tt)
@@ -141,7 +141,7 @@ module _ {M : Type 1} (𝓤 : URA M) (H : Heap 𝓤) (A : Atoms 𝓤) (W : Given
   abbrev to-loop : List ℕ → Loop 𝓤 H A mem run .Ghost
   to-loop l = (((κr, (κm, tt)), (qr, (qm, tt)), tt, given-loop l, (vr ∷ [], (vint w64 (begun .turns) ∷ [], (vm ∷ [], tt)))), tt)
 
-  exits : (zs : List SignalRecord) (is : List ℕ) → after (replyOf (begun .outcome .answer)) (memory (begun .outcome .state) zs ts [] is) ≡ startOf (settings .limit) (settings .signals) (memory state ys ts [] ms)
+  exits : (zs : List SignalRecord) (is : List ℕ) → after (replyOf (begun .outcome .answer)) (memory (begun .outcome .state) zs ts [] is) ≡ startOf settings (memory state ys ts [] ms)
       → length zs ≡ length ys → length is ≡ length ms → Is O.the-row (begun .outcome) (LL.val O.the-type O′.the-laws (begun .outcome) ∷ []) → ent 𝓤 (⋆ 𝓤 H A (‵ (flft κr qr) ∷ ‵ (flft κt qt) ∷ ‵ (flft κm qm) ∷ ‵ (finally T.the-row γr zs) ∷ ‵ (ShrSlice (named 1) κt u64 .own (xt γt ts) (vt ∷ [])) ∷ ‵ (finally u8 γm is) ∷ [])) (Post (LL.val O.the-type O′.the-laws (begun .outcome)))
   exits zs is e lenr lenm out-is =
       qed W (‵ (flft κr qr) ∷ ‵ (flft κt qt) ∷ ‵ (flft κm qm) ∷ ‵ (finally T.the-row γr zs) ∷ ‵ (ShrSlice (named 1) κt u64 .own (xt γt ts) (vt ∷ [])) ∷ ‵ (finally u8 γm is) ∷ []) ∵
@@ -188,8 +188,8 @@ module _ {M : Type 1} (𝓤 : URA M) (H : Heap 𝓤) (A : Atoms 𝓤) (W : Given
       calls-at ! (fmOf 𝓤 H (W .laws) 𝓣) (Starts 𝓤 H A mem run) kb (to-begin μ ε) (and-then ! (load ! (from ! (stop !)) (look ! 38 refl)) (and-then ! (load ! (from ! (stop !)) (look ! 36 refl)) (and-then ! (load ! (from ! (stop !)) (look ! 28 refl)) (and-then ! (load ! (from ! (stop !)) (look ! 26 refl)) (and-then ! (load ! (from ! (stop !)) (look ! 24 refl)) (and-then ! (load ! (from ! (stop !)) (look ! 14 refl)) (no-more !))))))) (λ v.
       use1 W (later (some (λ (p : Begun). ((‵ (flft (μ ∷ []) fullShare) ⊛ ‵ ftrue) ⊛ ‵ (Bg.the-row .own p (v ∷ []))) ⊛ raw (ensured 𝓤 H A starts.ended (starts.clauses 𝓤 H A mem run) (μ ∷ [], tt) (given-begin ε) tt p)))) (id⊢ 𝓤 _) $ await ! tt $ pick ! (λ p.
       split ! $ move ! (1 ∷ []) $
-      use1 W (some (λ (zs : Unit {0} × (Unit {0} × (Unit {0} × (Unit {0} × (Unit {0} × (List ℕ × Unit {0})))))). ‵ (lasts starts.ended (μ ∷ [], tt) (given-begin ε) zs) ⊛ raw (fact 𝓤 ((p ≡ begun) × (zs .1 .1 .1 .1 .1 .0 ≡ beginIn (settings .limit) (settings .signals) unknown (length ys) (length ts) ms))))) (id⊢ 𝓤 _) $ pick ! (λ zs.
-      split ! $ move ! (1 ∷ []) $ heard ! ((p ≡ begun) × (zs .1 .1 .1 .1 .1 .0 ≡ beginIn (settings .limit) (settings .signals) unknown (length ys) (length ts) ms)) (λ e₂. fsplit ! $ drop ! $ fsplit ! $ drop ! $ fsplit ! $
+      use1 W (some (λ (zs : Unit {0} × (Unit {0} × (Unit {0} × (Unit {0} × (Unit {0} × (List ℕ × Unit {0})))))). ‵ (lasts starts.ended (μ ∷ [], tt) (given-begin ε) zs) ⊛ raw (fact 𝓤 ((p ≡ begun) × (zs .1 .1 .1 .1 .1 .0 ≡ beginIn settings unknown (length ys) (length ts) ms))))) (id⊢ 𝓤 _) $ pick ! (λ zs.
+      split ! $ move ! (1 ∷ []) $ heard ! ((p ≡ begun) × (zs .1 .1 .1 .1 .1 .0 ≡ beginIn settings unknown (length ys) (length ts) ms)) (λ e₂. fsplit ! $ drop ! $ fsplit ! $ drop ! $ fsplit ! $
       drop ! $ fsplit ! $ drop ! $ fsplit ! $ drop ! $ fsplit ! $ fsplit ! $ move ! (1 ∷ []) $ feqL ! (λ l₁′. move ! (1 ∷ []) $ drop ! $ move ! (1 ∷ []) $ split ! $
       rewrite ! 1 (λ (z : Begun). ‵ (Bg.the-row .own z (v ∷ []))) (e₂ .0) refl $ move ! (1 ∷ []) $ peeks ! Bg.the-row (Is Bg.the-row) (shows 𝓤 H A Bg.the-row) begun (v ∷ []) (λ is₂.
       land ! (from ! (stop !)) (init ! 24 refl (LL.lawful Bg.the-type Bg′.the-laws 𝓤 H A W .typed begun _ is₂ .0)) $
@@ -204,7 +204,7 @@ module _ {M : Type 1} (𝓤 : URA M) (H : Heap 𝓤) (A : Atoms 𝓤) (W : Given
       assigns ! (agg ! (and-then ! (load ! (from ! (stop !)) (look ! 6 refl)) (and-then ! (load ! (from ! (fld ! refl (stop !))) (look-in ! 30 (sub ! 1 refl (whole !)))) (no-more !)))) (from ! (stop !)) (init ! 4 refl (tt, (tt, (record { fits = roomm .0 }, tt)))) $
       nothing ! $ move ! (2 ∷ 0 ∷ []) $ join ! $ move ! (3 ∷ 0 ∷ []) $ join ! $ nothing ! $ move ! (2 ∷ 0 ∷ []) $ fjoin ! $
       owned ! usize (Is usize) (uint-makes 𝓤 H A W w64) (begun .turns) _ (LL.owed Bg.the-type Bg′.the-laws begun _ is₂ .1 .0) $ fjoin ! $ move ! (2 ∷ 0 ∷ []) $ fjoin ! $ move ! (1 ∷ 0 ∷ []) $ join ! $
-      use0 W (raw (fact 𝓤 (KindsFit (begun .turns) ys (zs .1 .1 .1 .1 .1 .0)))) (factI 𝓤 (KindsFit (begun .turns) ys (zs .1 .1 .1 .1 .1 .0)) (emp 𝓤) (subst (KindsFit (begun .turns) ys) (sym (e₂ .1)) (begin-fits state (settings .limit) (settings .signals) unknown (length ys) (length ts) ms ys refl))) $
+      use0 W (raw (fact 𝓤 (KindsFit (begun .turns) ys (zs .1 .1 .1 .1 .1 .0)))) (factI 𝓤 (KindsFit (begun .turns) ys (zs .1 .1 .1 .1 .1 .0)) (emp 𝓤) (subst (KindsFit (begun .turns) ys) (sym (e₂ .1)) (begin-fits state settings unknown (length ys) (length ts) ms ys refl))) $
       move ! (1 ∷ 0 ∷ []) $ join ! $ use1 W (raw (Loop 𝓤 H A mem run .pre (to-loop (zs .1 .1 .1 .1 .1 .0)))) (id⊢ 𝓤 _) $
       calls-at ! (fmOf 𝓤 H (W .laws) 𝓣) (Loop 𝓤 H A mem run) kc (to-loop (zs .1 .1 .1 .1 .1 .0)) (and-then ! (load ! (from ! (stop !)) (look ! 5 refl)) (and-then ! (load ! (from ! (fld ! refl (stop !))) (look-in ! 19 (sub ! 1 refl (whole !)))) (and-then ! (load ! (from ! (stop !)) (look ! 1 refl)) (no-more !)))) (λ w.
       use1 W (later (some (λ (x : Unit {0}). ((‵ (flft κr qr) ⊛ ‵ (flft κm qm) ⊛ ‵ ftrue) ⊛ ‵ (unit .own x (w ∷ []))) ⊛ raw (ensured 𝓤 H A loop.ended (loop.clauses 𝓤 H A mem run) (κr, (κm, tt)) (given-loop (zs .1 .1 .1 .1 .1 .0)) tt x)))) (id⊢ 𝓤 _) $ await ! tt $ pick ! (λ x.
@@ -222,7 +222,7 @@ module _ {M : Type 1} (𝓤 : URA M) (H : Heap 𝓤) (A : Atoms 𝓤) (W : Given
       move ! (22 ∷ 23 ∷ []) $ free1 ! $ move ! (20 ∷ 21 ∷ []) $ free1 ! $ move ! (18 ∷ 19 ∷ []) $ free1 ! $ move ! (16 ∷ 17 ∷ []) $ free1 ! $ move ! (14 ∷ 15 ∷ []) $ free1 ! $
       move ! (12 ∷ 13 ∷ []) $ free1 ! $ move ! (10 ∷ 11 ∷ []) $ free1 ! $ move ! (8 ∷ 9 ∷ []) $ free1 ! $ move ! (6 ∷ 7 ∷ []) $ free1 ! $ move ! (4 ∷ 5 ∷ []) $ free1 ! $ free0 ! $
       keep ! (1 ∷ 5 ∷ 0 ∷ 3 ∷ 4 ∷ 2 ∷ []) $
-      by ! (exits (cs .0) (cs .1 .1 .0) (started-out (settings .limit) (settings .signals) state ys (cs .0) ts ms (zs .1 .1 .1 .1 .1 .0) (cs .1 .1 .0) (e₂ .1) (e₃ .0) (e₃ .1) ∙ start-carried (settings .limit) (settings .signals) (memory state ys ts [] ms)) lr (lm ∙ l₁′) (LL.owed Bg.the-type Bg′.the-laws begun _ is₂ .0))))))))))))))))))))))))))))))))))))))))))
+      by ! (exits (cs .0) (cs .1 .1 .0) (started-out settings state ys (cs .0) ts ms (zs .1 .1 .1 .1 .1 .0) (cs .1 .1 .0) (e₂ .1) (e₃ .0) (e₃ .1) ∙ start-carried settings (memory state ys ts [] ms)) lr (lm ∙ l₁′) (LL.owed Bg.the-type Bg′.the-laws begun _ is₂ .0))))))))))))))))))))))))))))))))))))))))))
 
 module _ {M : Type 1} (𝓤 : URA M) (H : Heap 𝓤) (A : Atoms 𝓤) (W : Given 𝓤 H A) (mem : Memory → SProp 𝓤) (run : Routine → Fun 𝓤) (𝓣 : Tables 𝓤 H) (ka : Triple 𝓤 (𝓣 .C #records·has-unknown-kind) (Has 𝓤 H A mem run)) (kb : Triple 𝓤 (𝓣 .C #plan·start·begin) (Starts 𝓤 H A mem run)) (kc : Triple 𝓤 (𝓣 .C #encoder·turns·start-records) (Loop 𝓤 H A mem run)) where
   walks : Walks 𝓤 H A main.ended stayed (WpFn 𝓤 H (𝓣 .C) (𝓣 .Λ) code.function) (main.clauses 𝓤 H A mem run)

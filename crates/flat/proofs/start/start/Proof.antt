@@ -18,7 +18,7 @@ start-records-requires : tie.Need-start-records-requires
 start-records-requires c κs =
     let a = c .before .before .before .before .before .before .before .before .before .before .before .args in
     let e = c .before .before .before .before .begin .ensures in
-    kinds-fit (a .state) (a .settings .limit) (a .settings .signals) (recordsOf (a .records .now)) (a .times .now) [] (a .image .now) _ _ _ _ (records-length (a .records .now)) (e .0) (e .1)
+    kinds-fit (a .state) (a .settings) (recordsOf (a .records .now)) (a .times .now) [] (a .image .now) _ _ _ _ (records-length (a .records .now)) (e .0) (e .1)
 
 same-length : tie.Need-same-length
 same-length c = search needs
@@ -31,7 +31,7 @@ returns c =
     let a = c .before .before .before .before .before .before .before .before .before .before .before .before .before .before .before .before .before .args in
     let e = c .before .before .before .before .before .before .before .before .before .before .begin .ensures in
     let k = c .before .before .before .before .before .start-records .ensures in
-    start-steps (a .state) (a .settings .limit) (a .settings .signals) (recordsOf (a .records .now)) (a .times .now) [] (a .image .now) _ _ _ _ (records-length (a .records .now)) (e .0) (e .1) _ _
+    start-steps (a .state) (a .settings) (recordsOf (a .records .now)) (a .times .now) [] (a .image .now) _ _ _ _ (records-length (a .records .now)) (e .0) (e .1) _ _
     (c .before .before .before .before .before .before .before .before .before .before .before .before .has-unknown-kind .ensures) (k .0) (k .1)
 
 pub start-spec : {M : Type 1} → statement M

@@ -3,6 +3,7 @@
 use mathlib.Core.List.{[]}
 use Rattle.recording.specs.declared.Encoder.{Encoder}
 use Rattle.recording.specs.Memory.{memory}
+use Rattle.recording.specs.State.{settingsOf}
 use Rattle.recording.specs.Step.{startOf}
 use Rattle.storage.specs.Storage.{recordsOf}
 use Rattle.interface_answers.proofs.ToldLaws.{told-made}
@@ -28,7 +29,7 @@ same-length-2 c = search needs
 returns : tie.Need-returns
 returns c =
     let a = c .before .before .before .before .before .before .before .before .before .before .before .before .args in
-    told-made (a .state) (λ (s : Encoder). startOf (a .limit) (a .signals) (memory s (recordsOf (a .records .now)) (a .times .now) [] (a .image .now))) _ _ _ _ _ _ _ _
+    told-made (a .state) (λ (s : Encoder). startOf (settingsOf (a .limit) (a .signals) (a .edition)) (memory s (recordsOf (a .records .now)) (a .times .now) [] (a .image .now))) _ _ _ _ _ _ _ _
     (c .before .before .before .before .before .before .before .before .state-from .ensures) (c .before .before .before .before .before .start .ensures)
     (c .outcome-numbers .ensures)
 
