@@ -1,4 +1,4 @@
-//! Where the Rust parts from document 01, and at a value and at joins from document 02, each place by its smallest input. docs/DIFFERENCES.md has the tables;
+//! Where the Rust parts from document 01, and at a value, a skip and joins from document 02, each place by its smallest input. docs/DIFFERENCES.md has the tables;
 //! `selftest` runs them.
 
 use super::*;

@@ -340,12 +340,12 @@ fn only_editions_1_and_2_start() {
 /// Records, times, work and image.
 type Buffers = ([u64; 2], [u64; 2], [u8; 64], [u8; 128]);
 
-/// The state and the buffers after a start, these times and, before the last of them, a change.
-fn left_after(edition: Edition, first: u64, last: u64) -> (State, Buffers) {
+/// The state and the buffers after a start, the time 5, a change and this time.
+fn left_after(edition: Edition, last: u64) -> (State, Buffers) {
     let (mut records, mut times, mut work, mut image) = ([1, Kind::Real.record()], [0; 2], [0; 64], [0; 128]);
     let mut recorder = Recorder::new(&mut records, &mut times, &mut work, &mut image);
     assert_eq!(recorder.start(2, edition), Ok(Answer::Started));
-    assert_eq!(recorder.time(first), Ok(Answer::Taken));
+    assert_eq!(recorder.time(5), Ok(Answer::Taken));
     assert_eq!(recorder.vcd(0, b"1"), Ok(Answer::Recorded));
     recorder.time(last).unwrap();
     (recorder.state(), (records, times, work, image))
@@ -370,7 +370,7 @@ fn all_refused(state: State, buffers: &Buffers, number: u32) {
 #[test]
 fn an_altered_edition_is_told() {
     for last in [6, 4] {
-        for (state, buffers) in EDITIONS.map(|edition| left_after(edition, 5, last)) {
+        for (state, buffers) in EDITIONS.map(|edition| left_after(edition, last)) {
             for edition in [0, 3, u32::MAX] {
                 let altered = State { edition, ..state };
                 all_refused(altered, &buffers, 10);

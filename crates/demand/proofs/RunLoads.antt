@@ -1,5 +1,6 @@
 -- A recording of every kind of signal, computed from the start to what its image loads as: refusals 3, 4 and 6, a skip, an equal time, a
--- cut, a repeat across the cut, a raw claim above the value, -0.0 beside 0.0, events in both blocks.
+-- cut, a repeat across the cut, a raw claim above the value, -0.0 beside 0.0, events in both blocks. And one whose changes edition 2 alone
+-- records.
 -- Assumes nothing.
 use Prim.Native.Nat.{ℕ, zero, suc, _<_, _^_}
 use mathlib.Core.Path.{_≡_, refl}

@@ -11,7 +11,8 @@ ghost use mathlib.Core.List.{[]};
 ghost use Rattle.recording.specs.Memory.{memory, left};
 ghost use Rattle.recording.specs.Step.{startOf};
 
-// Starts a recording of S signals with at most B times a block: writes the image's head, and sets each record's index and class to 0.
+// Starts a recording of S signals with at most B times a block, by an edition of the skip rule: writes the image's head, and sets each record's
+// index and class to 0.
 // The work buffer is not lent: [] stands for it.
 pub fn start<'r, 't, 'i>(
     state: Encoder,

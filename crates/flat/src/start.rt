@@ -11,7 +11,8 @@ ghost use Rattle.recording.specs.Memory.{memory, left};
 ghost use Rattle.recording.specs.Step.{startOf};
 ghost use Rattle.storage.specs.Storage.{recordsOf};
 
-// Starts a recording of S signals with at most B times a block: writes the image's head, and sets each record's index and class to 0.
+// Starts a recording of S signals with at most B times a block, by an edition of the skip rule: writes the image's head, and sets each record's
+// index and class to 0.
 // The work buffer is not lent: [] stands for it, and any other gives the same (proofs/StartLaws, start-work).
 pub fn start(
     state: Encoder,

@@ -32,7 +32,7 @@ skipOf b n = record { on = b; count = n }
 abbrev pub skipStarted : ProbeSkip → ProbeSkip
 skipStarted k = skipOf true (k .count)
 
--- a time above the last ends it
+-- it ends, as where a time is above the last
 abbrev pub skipOver : ProbeSkip → ProbeSkip
 skipOver k = skipOf false (k .count)
 

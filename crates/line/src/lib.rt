@@ -158,7 +158,7 @@ fn read_change(line: &[u8]) -> Command
     Command::NotUnderstood
 }
 
-// A line that is neither empty nor a comment. The changes are left to a function of their own: its proof stays short.
+// A line that is neither empty nor a comment. The changes are left to a function of their own, so that each proof stays short.
 fn read_call(line: &[u8]) -> Command
     ensures { λ r. ⌜ shown (now (line .entry)) r ≡ callOf (now (line .entry)) ⌝ }
 {

@@ -77,18 +77,13 @@ unfolding groups lebOf le unle symbolOf classOfAll symbolsIn lastOr vcdBit decod
     itemsOf gather unknownKind startTests stateTests partsFrom cutOf timeOf changeOf finishOf startOf step run lent ranIn
 same-stands = (refl, refl)
 
+-- no time is added: the table has the one that was taken
 pub same-ends : (ranIn 2 4 (BitVector 1 ∷ []) sames .replies
     ≡ say taken ∷ say back ∷ say skipped ∷ say calls.same ∷ say recorded ∷ say calls.same ∷ say recorded ∷ say back ∷ say back ∷ say skipped ∷ [])
-    × (ranIn 2 4 (BitVector 1 ∷ []) sames .last .state .skips .count ≡ 2)
+    × (ranIn 2 4 (BitVector 1 ∷ []) sames .last .state .skips .count ≡ 2) × (ranIn 2 4 (BitVector 1 ∷ []) sames .last .state .held ≡ 1)
 unfolding groups lebOf le unle symbolOf classOfAll symbolsIn lastOr vcdBit decode changeBytes les dataOf offsetsFrom blockBytes headBytes wayOf skipBegun skipEnded skipSame skipCounted
     itemsOf gather unknownKind startTests stateTests partsFrom cutOf timeOf changeOf finishOf startOf step run lent ranIn
-same-ends = (refl, refl)
-
--- no time is added: the table has the one time that was taken
-pub same-adds-none : ranIn 2 4 (BitVector 1 ∷ []) sames .last .state .held ≡ 1
-unfolding groups lebOf le unle symbolOf classOfAll symbolsIn lastOr vcdBit decode changeBytes les dataOf offsetsFrom blockBytes headBytes wayOf skipBegun skipEnded skipSame skipCounted
-    itemsOf gather unknownKind startTests stateTests partsFrom cutOf timeOf changeOf finishOf startOf step run lent ranIn
-same-adds-none = refl
+same-ends = (refl, refl, refl)
 
 -- an event, B 2, times 1, 2 and 1: the table is full and a skip is on. The image has room for its head alone; so many work bytes are used,
 -- which are no records

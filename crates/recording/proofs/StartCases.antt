@@ -26,47 +26,44 @@ use Rattle.recording.proofs.StartLaws.{start-fits}
 
 -- ---- what is not lawful is 1, whatever else is not
 
-abbrev pub Refused : Settings → Memory → Type 0
-Refused s m = startOf s m ≡ refused m 1
-
 module _ (s : Settings) (m : Memory) where
-  pub limit-low : s .limit < 2 → Refused s m
+  pub limit-low : s .limit < 2 → startOf s m ≡ refused m 1
   unfolding startOf startTests
   limit-low h = rw (lt-ltb (s .limit) 2 h) refl
 
-  pub limit-high : 65535 < s .limit → Refused s m
+  pub limit-high : 65535 < s .limit → startOf s m ≡ refused m 1
   unfolding startOf startTests
   limit-high h = rw (lt-ltb 65535 (s .limit) h, or-true (ltb (s .limit) 2)) refl
 
-  pub edition-low : s .edition < 1 → Refused s m
+  pub edition-low : s .edition < 1 → startOf s m ≡ refused m 1
   unfolding startOf startTests
   edition-low h = rw (lt-ltb (s .edition) 1 h) (pick-same (outside (s .limit)) _)
 
-  pub edition-high : 2 < s .edition → Refused s m
+  pub edition-high : 2 < s .edition → startOf s m ≡ refused m 1
   unfolding startOf startTests
   edition-high h = rw (lt-ltb 2 (s .edition) h, or-true (ltb (s .edition) 1)) (pick-same (outside (s .limit)) _)
 
-  pub table-short : length (m .times) < s .limit → Refused s m
+  pub table-short : length (m .times) < s .limit → startOf s m ≡ refused m 1
   unfolding startOf startTests
   table-short h = rw (lt-ltb (length (m .times)) (s .limit) h) (simp pick-same)
 
-  pub signals-many : 65536 < s .signals → Refused s m
+  pub signals-many : 65536 < s .signals → startOf s m ≡ refused m 1
   unfolding startOf startTests
   signals-many h = rw (lt-ltb 65536 (s .signals) h) (simp pick-same)
 
-  pub signals-other : (s .signals ≡ length (m .records) → ⊥) → Refused s m
+  pub signals-other : (s .signals ≡ length (m .records) → ⊥) → startOf s m ≡ refused m 1
   unfolding startOf startTests
   signals-other h = rw (ne-eqb (s .signals) (length (m .records)) h, or-true (ltb 65536 (s .signals))) (simp pick-same)
 
-  pub kind-unknown : unknownKind (m .records) ≡ true → Refused s m
+  pub kind-unknown : unknownKind (m .records) ≡ true → startOf s m ≡ refused m 1
   unfolding startOf startTests
   kind-unknown h = rw h (simp pick-same)
 
-  pub image-short : length (m .image) < headSize (s .signals) → Refused s m
+  pub image-short : length (m .image) < headSize (s .signals) → startOf s m ≡ refused m 1
   unfolding startOf startTests
   image-short h = rw (lt-ltb (length (m .image)) (headSize (s .signals)) h) (simp pick-same)
 
-  pub image-long : imageLimit < length (m .image) → Refused s m
+  pub image-long : imageLimit < length (m .image) → startOf s m ≡ refused m 1
   unfolding startOf startTests
   image-long h = rw (lt-ltb imageLimit (length (m .image)) h, or-true (ltb (length (m .image)) (headSize (s .signals)))) (simp pick-same)
 
@@ -96,7 +93,7 @@ module _ (limit signals edition : ℕ) (m : Memory) where
   Begins = startOf (settingsOf limit signals edition) m .reply ≡ started
 
   abbrev pub Refuses : Type 0
-  Refuses = Refused (settingsOf limit signals edition) m
+  Refuses = startOf (settingsOf limit signals edition) m ≡ refused m 1
 
 pub fits : (limit signals edition : ℕ) (m : Memory) → Limited limit m → Chosen edition → Counted signals m → Roomy signals m → Begins limit signals edition m
 fits l s e m b t c r =
@@ -204,7 +201,8 @@ pub other-count : Refuses 2 1 1 (lent (Real ∷ Real ∷ []) 2 24) × Refuses 2 
 unfolding unknownKind startTests startOf
 other-count = (refl, refl)
 
--- widths 1 and 4 with B 4, as on the bench sheet, in edition 2: the head, which tells nothing of the edition, all records at 0, nothing past the head, and the other buffers as they were
+-- widths 1 and 4 with B 4, as on the bench sheet, in edition 2: the head, which tells nothing of the edition, all records at 0, nothing past
+-- the head, and the other buffers as they were
 pub started-anew : startOf (settingsOf 4 2 2) (lent (BitVector 1 ∷ BitVector 4 ∷ []) 5 26)
     ≡ after started
     (memory (record { closed = false; limit = 4; signals = 2; held = 0; work = 0; image = 24; blocks = 0; edition = 2; skips = probeSkip false 0 })

@@ -28,6 +28,7 @@ lent ks t w i = memory staleState (map stale ks) (replicate t 99) (replicate w 9
 unfoldable pub ranIn : (edition limit : ℕ) → List SignalEncoding → List Call → Ran
 ranIn e limit ks cs = run (startOf (settingsOf limit (length ks) e) (lent ks limit 64 128) .memory) cs
 
+-- in edition 1
 unfoldable pub ran : (limit : ℕ) → List SignalEncoding → List Call → Ran
 ran = ranIn 1
 

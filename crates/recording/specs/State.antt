@@ -1,4 +1,4 @@
--- The state of a recording, field by field. antt has no update of one field: what changes some of them names the setters here.
+-- What a start is given, and the state of a recording, field by field. antt has no update of one field: what changes some of them names the setters here.
 -- Assumes nothing.
 use Prim.Native.Nat.{ℕ}
 use mathlib.Core.Bool.{Bool, true, false}
@@ -28,7 +28,7 @@ noSkips = probeSkip false 0
 unfoldable pub skipBegun : ProbeSkip → ProbeSkip
 skipBegun k = probeSkip true (k .count)
 
--- a time was taken
+-- it ends, as where a time was taken
 unfoldable pub skipEnded : ProbeSkip → ProbeSkip
 skipEnded k = probeSkip false (k .count)
 

@@ -83,7 +83,7 @@ timedState s = withSkips (withHeld s (s .held + 1)) (skipEnded (s .skips))
 abbrev pub timed : Memory → ℕ → Memory
 timed m t = memory (timedState (m .state)) (m .records) (set (m .times) (m .state .held) t) (m .work) (m .image)
 
--- document 02, (j)
+-- document 02, (j): an equal time may end a skip
 abbrev pub sameTime : Encoder → Encoder
 sameTime s = withSkips s (skipSame (s .edition) (s .skips))
 

@@ -27,7 +27,7 @@ impl ProbeSkip {
         ProbeSkip { on: true, count }
     }
 
-    // A time was taken.
+    // It ends, as where a time was taken.
     pub fn ended(self) -> ProbeSkip
         ensures { λ r. ⌜ r ≡ skipEnded self ⌝ }
     {

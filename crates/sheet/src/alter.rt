@@ -65,7 +65,7 @@ fn take_start(run: &mut Run, line: &[u8]) -> u64 {
     MAKE
 }
 
-// `set FIELD N`; false is 0. The field `edition` is that of the recording that is open, the line `edition N` speaks of the starts after it.
+// `set FIELD N`; false is 0.
 fn set_field(run: &mut Run, line: &[u8]) -> u64 {
     let field = field_of(word(line, 1));
     if field < FIELDS {

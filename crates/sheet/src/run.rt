@@ -3,6 +3,7 @@
 use line::Command;
 use line::read_line;
 use recording::Answer;
+use recording::EDITION_1;
 use recording::Encoder;
 use recording::Outcome;
 use recording::ProbeSkip;
@@ -10,7 +11,7 @@ use recording::Settings;
 
 pub type Run = [u64; 22];
 
-// The state's fields, in the order of `Encoder`, then the skip's two and the edition; flags are 0 or 1.
+// The state's fields, the skip's two and the edition last; flags are 0 or 1.
 pub const CLOSED: usize = 0;
 
 pub const LIMIT: usize = 1;
@@ -29,7 +30,6 @@ const SKIP: usize = 7;
 
 pub const SKIPPED: usize = 8;
 
-// The edition of the recording that is open; CHOSEN is the next one's.
 const EDITION: usize = 9;
 
 // How many fields the state has.
@@ -92,7 +92,7 @@ pub const REFUSED: u64 = 7;
 pub fn fresh_run(times: u64, work: u64, image: u64) -> Run {
     let mut run = [0u64; 22];
     run[CLOSED] = 1;
-    run[CHOSEN] = 1;
+    run[CHOSEN] = EDITION_1 as u64;
     run[TIMES] = times;
     run[WORK] = work;
     run[IMAGE] = image;

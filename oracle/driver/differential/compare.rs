@@ -1,4 +1,4 @@
-//! One recording on all sides: the Rust, the wave memory, document 01 read a second time, and the history of the calls.
+//! One recording on all sides: the Rust, the wave memory, documents 01 and 02 read a second time, and the history of the calls.
 
 use crate::history::{History, Load};
 use crate::memory::{Answer, BYTE, Memory, NUMBER, Recording, TIME, difference, step_line};
@@ -57,22 +57,22 @@ fn needs(r: &Recording) -> Option<(usize, usize)> {
     Some((most, m.state.image as usize))
 }
 
-/// Makes one call on our memory and on document 01's.
+/// Makes one call on our memory and on the papers'.
 fn both(m: &mut Memory, other: &mut Memory, step: &Step) -> Result<Answer, String> {
     let answer = ours::step(m, step);
     let said = paper::step(other, step).unwrap_or_else(|turned| Answer::Refused(turned.number));
-    agree("answer of ours and of document 01", answer, said)?;
+    agree("answer of ours and of the papers", answer, said)?;
     Ok(answer)
 }
 
-/// Makes all calls on ours, holding each answer and the memory after each call against document 01, and each answer against the
+/// Makes all calls on ours, holding each answer and the memory after each call against the papers, and each answer against the
 /// history. The memory is compared after every `every`-th call, and at the end.
 fn made(r: &Recording, mut m: Memory, every: usize) -> Result<(Memory, Vec<Answer>, History), String> {
     let mut other = m.clone();
     let (limit, signals) = (u32::from(r.limit), r.kinds.len() as u32);
     let answer = ours::start(&mut m, limit, signals, r.edition);
     agree("start", answer, Answer::Started)?;
-    paper::start(&mut other, limit, signals, r.edition).map_err(|_| "document 01 refuses the start")?;
+    paper::start(&mut other, limit, signals, r.edition).map_err(|_| "the papers refuse the start")?;
     let mut history = History::new(r.edition, &r.kinds);
     let mut answers = Vec::new();
     for (number, step) in r.steps.iter().enumerate() {
@@ -82,7 +82,7 @@ fn made(r: &Recording, mut m: Memory, every: usize) -> Result<(Memory, Vec<Answe
             agree("answer of ours and of the history", answer, told).map_err(|e| format!("{}: {e}", at()))?;
         }
         if number % every == 0 || number + 1 == r.steps.len() {
-            none("memory of ours and of document 01", m.difference(&other)).map_err(|e| format!("{}: {e}", at()))?;
+            none("memory of ours and of the papers", m.difference(&other)).map_err(|e| format!("{}: {e}", at()))?;
         }
         answers.push(answer);
     }

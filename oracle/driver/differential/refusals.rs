@@ -1,4 +1,4 @@
-//! Refusals on states as calls leave them and on altered ones: the answer and all memory after it are those of document 01 read a
+//! Refusals on states as calls leave them and on altered ones: the answer and all memory after it are those of the papers read a
 //! second time (paper.rs), and a refusal leaves all memory as it was.
 
 use crate::compare::{Compared, Tally, agree, none, on_memory};
@@ -34,7 +34,7 @@ impl Refusals {
     }
 }
 
-/// Makes a call on our memory and on document 01's.
+/// Makes a call on our memory and on the papers'.
 fn compared(
     m: &mut Memory,
     name: &str,
