@@ -4,7 +4,8 @@ use recording::ProbeSkip;
 ghost use mathlib.Core.Path.{_≡_};
 ghost use Rattle.interface_state.specs.State.{flagAfter, stateFrom, stateAfter};
 
-// The fields of `Encoder`; those that it was given later stand last, so that no offset moves. `closed` and `skip` are off at 0 and on at every other number.
+// The fields of `Encoder`; those that it was given later stand last, so that no offset moves. `closed` and `skip` are off at 0 and on at every
+// other number.
 #[repr(C)]
 pub struct StateNumbers {
     pub closed: u32,

@@ -1,4 +1,5 @@
--- What a start is given, and the state of a recording, field by field. antt has no update of one field: what changes some of them names the setters here.
+-- What a start is given, and the state of a recording, field by field. antt has no update of one field: what changes some of them names the
+-- setters here.
 -- Assumes nothing.
 use Prim.Native.Nat.{ℕ}
 use mathlib.Core.Bool.{Bool, true, false}
