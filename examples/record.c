@@ -1,5 +1,5 @@
-/* Records two signals, opens the image, and lists it: the times, and one loaded signal. Then the unit starts anew, and the second recording is
- * joined to the first. */
+/* Records a signal of each probe, opens the image, and lists it: the times, and one loaded signal. Then the unit starts anew, and the second
+ * recording is joined to the first. */
 #include "wejumo.h"
 
 #include <stdio.h>
@@ -14,7 +14,7 @@ static struct {
   uint64_t times[LIMIT];
   uint8_t work[WORK];
   uint8_t image[IMAGE];
-} rec = {.records = {1, 4}}; /* widths */
+} rec = {.records = {WEJUMO_RECORD(1, 0), WEJUMO_RECORD(4, 1)}}; /* width and probe */
 
 /* Keeps the state; every answer is printed. */
 static uint32_t keep(const char *call, wejumo_outcome done) {
@@ -23,31 +23,36 @@ static uint32_t keep(const char *call, wejumo_outcome done) {
   return done.value;
 }
 
-static void at(uint64_t time) {
-  keep("time", wejumo_time_change(rec.state, rec.records, SIGNALS, rec.times, LIMIT, rec.work, WORK, rec.image, IMAGE, time));
+static void at(uint32_t sender, uint64_t time) {
+  keep("time", wejumo_time_change(rec.state, rec.records, SIGNALS, rec.times, LIMIT, rec.work, WORK, rec.image, IMAGE, sender, time));
 }
 
+/* A signal has the number of the probe that sends its changes. */
 static void change(uint32_t signal, const char *text) {
   keep("change", wejumo_vcd_value_change(rec.state, rec.records, SIGNALS, rec.times, LIMIT, rec.work, WORK, rec.image, IMAGE,
-                                         signal, (const uint8_t *)text, strlen(text)));
+                                         signal, signal, (const uint8_t *)text, strlen(text)));
 }
 
+/* Both probes send at times 10 and 20, but the clock of probe 0 slips at the end: its last change is skipped, that of probe 1 is not. */
 static uint32_t record(void) {
   keep("start", wejumo_start(rec.state, LIMIT, SIGNALS, WEJUMO_EDITION_1, rec.records, SIGNALS, rec.times, LIMIT, rec.image, IMAGE));
-  at(10);
+  at(0, 10);
   change(0, "1");
   change(1, "b1x");
-  at(20);
+  at(1, 20);
+  at(0, 15);
+  change(0, "0");
   change(1, "b0001");
+  printf("skipped of probe 0: %u, of probe 1: %u\n", rec.state.skipped, rec.state.skipped_1);
   return keep("finish", wejumo_finish(rec.state, rec.records, SIGNALS, rec.times, LIMIT, rec.work, WORK, rec.image, IMAGE));
 }
 
 /* After a restart: it begins at the time that ended the first, with a value that signal 1 has already. */
 static uint32_t record_again(void) {
   keep("start", wejumo_start(rec.state, LIMIT, SIGNALS, WEJUMO_EDITION_1, rec.records, SIGNALS, rec.times, LIMIT, rec.image, IMAGE));
-  at(20);
+  at(1, 20);
   change(1, "b0001");
-  at(35);
+  at(0, 35);
   change(1, "bz");
   return keep("finish", wejumo_finish(rec.state, rec.records, SIGNALS, rec.times, LIMIT, rec.work, WORK, rec.image, IMAGE));
 }

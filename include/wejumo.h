@@ -40,14 +40,20 @@ extern "C" {
 #define WEJUMO_REAL UINT32_C(0xFFFFFFFE)
 #define WEJUMO_ABSENT UINT32_C(0xFFFFFFFF)
 
+/* Two probes, 0 and 1, send times and changes to one recording, with one table of times: a time is held against the last one, and a change
+ * falls at the last one, whoever sent that. Each time and change names its sender, and each signal's record the probe that sends its changes.
+ * The image tells nothing of probes. */
+#define WEJUMO_LAST_PROBE UINT32_C(1)
+
 #define WEJUMO_MAX_SIGNALS UINT32_C(65536)
 #define WEJUMO_MAX_WIDTH UINT32_C(65536)
 #define WEJUMO_MIN_LIMIT UINT32_C(2)
 #define WEJUMO_MAX_LIMIT UINT32_C(65535)
 #define WEJUMO_MAX_IMAGE UINT32_C(1073741824)
 
-/* Editions of the skip rule, one of which is chosen at a start. A time below the last one starts a skip: the changes that follow are counted,
- * not recorded, until it ends. The image tells nothing of the edition. */
+/* Editions of the skip rule, one of which is chosen at a start. A time below the last one starts a skip of its sender: the changes that this
+ * probe sends are counted, not recorded, until a time that it sends ends the skip. The other probe's skip and count stay as they are. The
+ * image tells nothing of the edition. */
 #define WEJUMO_EDITION_1 UINT32_C(1) /* only a time above the last one ends a skip */
 #define WEJUMO_EDITION_2 UINT32_C(2) /* a time equal to the last one ends it too; no time is added */
 
@@ -90,6 +96,7 @@ extern "C" {
 #define WEJUMO_UNLIKE UINT32_C(14)        /* images to join differ in S, B or a kind */
 #define WEJUMO_NO_BLOCK UINT32_C(15)      /* the first image to join has no block */
 #define WEJUMO_OVERLAP UINT32_C(16)       /* the second image to join starts before the first ends */
+#define WEJUMO_FOREIGN UINT32_C(18)       /* a sender that is no probe, or a signal whose record does not name the sender */
 
 /* A recording between two calls. Before the first start it may have any values, as { 0 }. Flags are off at 0 and on at every other number; a
  * call that leaves a flag on hands back its number, and one that sets it hands back 1. */
@@ -101,13 +108,15 @@ typedef struct wejumo_state {
   uint64_t work;    /* used bytes of the work buffer */
   uint32_t image;   /* used bytes of the image buffer */
   uint32_t blocks;
-  uint32_t skip;    /* flag: changes are skipped since a time went back */
-  uint32_t skipped; /* how many changes were skipped since the start; it stays at its top */
+  uint32_t skip;    /* flag: changes of probe 0 are skipped since a time that it sent went back */
+  uint32_t skipped; /* how many of its changes were skipped since the start; it stays at its top */
   uint32_t edition; /* of the skip rule */
+  uint32_t skip_1;  /* flag: as `skip`, of probe 1 */
+  uint32_t skipped_1;
 } wejumo_state;
 
 WEJUMO_ASSERT(sizeof(size_t) == 8);
-WEJUMO_ASSERT(sizeof(wejumo_state) == 48);
+WEJUMO_ASSERT(sizeof(wejumo_state) == 56);
 WEJUMO_ASSERT(offsetof(wejumo_state, closed) == 0);
 WEJUMO_ASSERT(offsetof(wejumo_state, limit) == 4);
 WEJUMO_ASSERT(offsetof(wejumo_state, signals) == 8);
@@ -118,6 +127,8 @@ WEJUMO_ASSERT(offsetof(wejumo_state, blocks) == 28);
 WEJUMO_ASSERT(offsetof(wejumo_state, skip) == 32);
 WEJUMO_ASSERT(offsetof(wejumo_state, skipped) == 36);
 WEJUMO_ASSERT(offsetof(wejumo_state, edition) == 40);
+WEJUMO_ASSERT(offsetof(wejumo_state, skip_1) == 44);
+WEJUMO_ASSERT(offsetof(wejumo_state, skipped_1) == 48);
 
 /* What a call of the recorder answers, and the state after it, which the caller hands to the next call. */
 typedef struct wejumo_outcome {
@@ -126,41 +137,50 @@ typedef struct wejumo_outcome {
   wejumo_state state;
 } wejumo_outcome;
 
-WEJUMO_ASSERT(sizeof(wejumo_outcome) == 56);
+WEJUMO_ASSERT(sizeof(wejumo_outcome) == 64);
 WEJUMO_ASSERT(offsetof(wejumo_outcome, answer) == 0);
 WEJUMO_ASSERT(offsetof(wejumo_outcome, value) == 4);
 WEJUMO_ASSERT(offsetof(wejumo_outcome, state) == 8);
 
 /* ---- The recorder.
  *
- * records: one number for each signal, its kind's number + 2^32 * (3 * index + class). Before a start the kind's number alone is enough: a
- * start sets index and class to 0. `work` holds the changes of the block that is being recorded, 8 bytes and the stream bytes each;
- * `times` holds its times. The image is the first `value` bytes of the image buffer after a finish. The same buffers go into each call. */
+ * records: one number for each signal, its kind's number + 2^32 * (probe + 256 * (3 * index + class)), the probe being 0 to 255. Before a start
+ * kind and probe are enough (WEJUMO_RECORD, below; a kind's number alone is a record of probe 0): a start sets index and class to 0. `work` holds
+ * the changes of the block that is being recorded, 8 bytes and the stream bytes each; `times` holds its times. The image is the first `value`
+ * bytes of the image buffer after a finish. The same buffers go into each call. */
+
+/* A probe above 255 is handed on as 255, which a start refuses like every other above 1. `probe` is evaluated twice. */
+#define WEJUMO_RECORD(kind, probe) ((uint64_t)(kind) + (((uint64_t)(probe) < 255 ? (uint64_t)(probe) : 255) << 32))
+
+WEJUMO_ASSERT(WEJUMO_RECORD(4, 0) == 4);
+WEJUMO_ASSERT(WEJUMO_RECORD(WEJUMO_ABSENT, 1) == UINT64_C(0x1FFFFFFFF));
+WEJUMO_ASSERT(WEJUMO_RECORD(1, 256) == WEJUMO_RECORD(1, 255));
 
 /* Starts a recording of `signals` signals with at most `limit` times a block, by an edition of the skip rule. STARTED. Refused with 1: `limit`
- * outside its range or above times_length, `signals` over its top or not records_length, `edition` neither 1 nor 2, a kind that is a width over
- * its top, an image buffer of fewer than 16 + 4 * signals bytes or over its top. */
+ * outside its range or above times_length, `signals` over its top or not records_length, `edition` neither 1 nor 2, a record whose kind is a width
+ * over its top or whose probe is neither 0 nor 1, an image buffer of fewer than 16 + 4 * signals bytes or over its top. */
 wejumo_outcome wejumo_start(wejumo_state state, uint32_t limit, uint32_t signals, uint32_t edition,
                             uint64_t *records, size_t records_length,
                             const uint64_t *times, size_t times_length,
                             uint8_t *image, size_t image_length);
 
-/* A time. TAKEN if it is the first or above the last, after a cut where the table is full, and ends a skip; SAME ends one in edition 2 alone;
- * BACK starts one. Refused with 2, 10, 8. */
+/* A time that a probe sends. TAKEN if it is the first or above the last, after a cut where the table is full, and ends the sender's skip; SAME ends
+ * it in edition 2 alone; BACK starts it. Refused, tested in this order, with 2, 18 (no such sender), 10, 8. */
 wejumo_outcome wejumo_time_change(wejumo_state state,
                                   uint64_t *records, size_t records_length,
                                   uint64_t *times, size_t times_length,
                                   const uint8_t *work, size_t work_length,
                                   uint8_t *image, size_t image_length,
-                                  uint64_t time);
+                                  uint32_t sender, uint64_t time);
 
-/* A value in VCD text. RECORDED, or SKIPPED during a skip; refused with 2, 10, 3, 4, 5, 6, 7, as the other changes. */
+/* A value in VCD text that a probe sends. RECORDED, or SKIPPED during the sender's skip. Refused, as the other changes, tested in this order, with
+ * 2, 18 (no such sender), 10, 3, and outside of that skip 4, 18 (the signal's record does not name the sender), 5, 6, 10, 7. */
 wejumo_outcome wejumo_vcd_value_change(wejumo_state state,
                                        uint64_t *records, size_t records_length,
                                        const uint64_t *times, size_t times_length,
                                        uint8_t *work, size_t work_length,
                                        const uint8_t *image, size_t image_length,
-                                       uint32_t signal,
+                                       uint32_t sender, uint32_t signal,
                                        const uint8_t *value, size_t value_length);
 
 /* Packed symbols, with the class that they claim; a claim above 2 is a bad value. */
@@ -169,7 +189,7 @@ wejumo_outcome wejumo_raw_value_change(wejumo_state state,
                                        const uint64_t *times, size_t times_length,
                                        uint8_t *work, size_t work_length,
                                        const uint8_t *image, size_t image_length,
-                                       uint32_t signal, uint32_t claim,
+                                       uint32_t sender, uint32_t signal, uint32_t claim,
                                        const uint8_t *value, size_t value_length);
 
 /* A real, by the 64 bits of its double, every pattern of which is kept. */
@@ -178,9 +198,9 @@ wejumo_outcome wejumo_real_change(wejumo_state state,
                                   const uint64_t *times, size_t times_length,
                                   uint8_t *work, size_t work_length,
                                   const uint8_t *image, size_t image_length,
-                                  uint32_t signal, uint64_t bits);
+                                  uint32_t sender, uint32_t signal, uint64_t bits);
 
-/* Cuts if any time is held, and closes. FINISHED; refused with 2, 10, 8. */
+/* Cuts if any time is held, and closes; it has no sender. FINISHED; refused with 2, 10, 8. */
 wejumo_outcome wejumo_finish(wejumo_state state,
                              uint64_t *records, size_t records_length,
                              uint64_t *times, size_t times_length,

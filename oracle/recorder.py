@@ -1,6 +1,6 @@
 #!/usr/bin/env python3
-"""The recorder of document 01, with document 02's left extension and its second edition of the
-skip rule, from the written rules alone.
+"""The recorder of document 01, with document 02's left extension, its second edition of the skip
+rule and its two probes, from the written rules alone.
 
   recorder.py          answers the calls on standard input
   recorder.py sheet    repeats them, each answer below its call as a comment `#= ANSWER`
@@ -18,16 +18,22 @@ leaves its space at the line's end. Lines that are empty or begin with # say not
   finish
 
 Answers: started, taken, same, back, recorded, skipped, refused K, and for a finish
-`finished TOTAL skipped COUNT` with a line `image HEX` after it.
+`finished TOTAL skipped COUNT` with a line `image HEX` after it; where a record names
+probe 1, COUNT is that of probe 0, a space and that of probe 1.
 
-What is lent, what is chosen for the starts that follow, and what another hand alters
-between two calls, is said by lines that have no answer. Buffers keep their content; the
-lent part begins at their front.
+What is lent, what is chosen for the starts that follow, who sends, and what another hand
+alters between two calls, is said by lines that have no answer. Buffers keep their content;
+the lent part begins at their front.
 
   lend TIMES WORK IMAGE           numbers of 64 bits, bytes, bytes
   edition N                       of the skip rule, until the next such line; 1 at first
+  probes P ..                     of the records of a start, one for each KIND, until the next
+                                  such line; all 0 at first. A start with another number of KINDs
+                                  than of these says nothing
+  sender N                        of the times and changes, until the next such line; 0 at first
   set FIELD N                     a field of the state (`State` below; false is 0)
-  record SIGNAL KIND INDEX TOP    the record of a signal
+  record SIGNAL KIND INDEX TOP [PROBE]
+                                  the record of a signal; its probe is 0 where none is said
   poke BUFFER PLACE HEX           bytes of `work` or `image`
 """
 import sys
@@ -40,6 +46,9 @@ NUMBERS = {REAL: 0xFFFFFFFE, ABSENT: 0xFFFFFFFF}  # in an image; else the width
 IMAGE_LIMIT = 1_073_741_824
 COUNT_TOP = 2**32 - 1
 EDITIONS = 1, 2  # of the skip rule
+PROBES = 0, 1
+SKIP = "skip", "skip_1"           # fields of the state, by probe
+SKIPPED = "skipped", "skipped_1"
 WHOLE = 65_535, 1 << 24, 1 << 24  # lent where no line says otherwise
 
 
@@ -65,6 +74,7 @@ class Record:
     kind: int | str
     index: int = 0
     top: int = 0
+    probe: int = 0
 
 
 @dataclass
@@ -79,6 +89,8 @@ class State:
     skip: bool = False
     skipped: int = 0
     edition: int = 0
+    skip_1: bool = False
+    skipped_1: int = 0
 
 
 class Buffer:
@@ -155,6 +167,8 @@ class Recorder:
     def __init__(self):
         self.state = State(closed=True)
         self.edition = 1  # for the starts that follow
+        self.probes = None  # for the starts that follow, one for each KIND; None: all 0
+        self.sender = 0  # of the times and changes that follow
         self.records = []
         self.times = Buffer([], WHOLE[0])
         self.work = Buffer(bytearray(), WHOLE[1])
@@ -165,8 +179,11 @@ class Recorder:
 
     # calls
 
-    def start(self, signals, limit, kinds):
+    def start(self, signals, limit, kinds, probes=None):
+        """The probes are all 0 where none are given."""
+        probes = probes or [0] * len(kinds)
         refuse(1, self.edition not in EDITIONS,
+               any(probe not in PROBES for probe in probes),
                not 2 <= limit <= 65_535,
                self.times.length < limit,
                signals > 65_536,
@@ -176,38 +193,41 @@ class Recorder:
                self.image.length > IMAGE_LIMIT)
         self.state = State(limit=limit, signals=signals, image=16 + 4 * signals,
                            edition=self.edition)
-        self.records = [Record(kind) for kind in kinds]
+        self.records = [Record(kind, probe=probe) for kind, probe in zip(kinds, probes)]
         self.image.write(0, head_bytes(limit, 0, self.state.image, kinds))
         return "started"
 
     def time(self, time):
-        self.require_sound()
+        self.require_sound(self.sender)
         state = self.state
+        skip = SKIP[self.sender]
         if state.held:
             last = self.last_time()
             if time == last:
                 if state.edition == 2:
-                    state.skip = False
+                    setattr(state, skip, False)
                 return "same"
             if time < last:
-                state.skip = True
+                setattr(state, skip, True)
                 return "back"
             if state.held == state.limit:
                 self.cut()
         self.times.write(state.held, [time])
         state.held += 1
-        state.skip = False
+        setattr(state, skip, False)
         return "taken"
 
     def change(self, signal, form, *value):
-        self.require_sound()
+        self.require_sound(self.sender)
         state = self.state
         refuse(3, state.held == 0)
-        if state.skip:
-            state.skipped = min(state.skipped + 1, COUNT_TOP)
+        if getattr(state, SKIP[self.sender]):
+            skipped = SKIPPED[self.sender]
+            setattr(state, skipped, min(getattr(state, skipped) + 1, COUNT_TOP))
             return "skipped"
         refuse(4, signal >= state.signals or self.records[signal].kind == ABSENT)
         record = self.records[signal]
+        refuse(18, record.probe != self.sender)
         rest, top, symbols = decode(record.kind, form, *value)
         refuse(10, record.index > state.held - 1, too_wide(record.kind))
         stream = change_bytes(record.kind, state.held - 1 - record.index, rest, symbols)
@@ -223,13 +243,17 @@ class Recorder:
         if self.state.held:
             self.cut()
         self.state.closed = True
-        return f"finished {self.state.image} skipped {self.state.skipped}"
+        of_1 = any(record.probe == 1 for record in self.records)
+        counts = f"{self.state.skipped} {self.state.skipped_1}" if of_1 else self.state.skipped
+        return f"finished {self.state.image} skipped {counts}"
 
     # parts of calls
 
-    def require_sound(self):
+    def require_sound(self, sender=None):
+        """A finish has no sender."""
         state = self.state
         refuse(2, state.closed)
+        refuse(18, sender is not None and sender not in PROBES)
         refuse(10, state.edition not in EDITIONS,
                not 2 <= state.limit <= 65_535,
                state.held > state.limit,
@@ -283,13 +307,19 @@ def kind_of(word):
     return word if word in NUMBERS else int(word)
 
 
-def kinds_of(words):
-    """`KIND*COUNT` stands for COUNT such kinds."""
-    kinds = []
-    for word in words:
+def records_of(words, probes):
+    """Kinds and probes of the records; `KIND*COUNT` stands for COUNT such records."""
+    kinds, named = [], []
+    for word, probe in zip(words, probes or [0] * len(words), strict=True):
         kind, _, count = word.partition("*")
         kinds += [kind_of(kind)] * int(count or 1)
-    return kinds
+        named += [probe] * int(count or 1)
+    return kinds, named
+
+
+def miscounted(recorder, words):
+    """A start with another number of kinds than of probes."""
+    return words[0] == "start" and recorder.probes is not None and len(recorder.probes) != len(words) - 3
 
 
 def alter(recorder, words):
@@ -299,11 +329,15 @@ def alter(recorder, words):
         recorder.lend(*map(int, rest))
     elif name == "edition":
         recorder.edition = int(rest[0])
+    elif name == "probes":
+        recorder.probes = [int(word) for word in rest]
+    elif name == "sender":
+        recorder.sender = int(rest[0])
     elif name == "set":
         old = getattr(recorder.state, rest[0])
         setattr(recorder.state, rest[0], type(old)(int(rest[1])))
     elif name == "record":
-        recorder.records[int(rest[0])] = Record(kind_of(rest[1]), int(rest[2]), int(rest[3]))
+        recorder.records[int(rest[0])] = Record(kind_of(rest[1]), *map(int, rest[2:]))
     elif name == "poke":
         getattr(recorder, rest[0]).write(int(rest[1]), bytes.fromhex(rest[2]))
     else:
@@ -314,7 +348,7 @@ def alter(recorder, words):
 def call(recorder, words):
     name, *rest = words
     if name == "start":
-        return recorder.start(int(rest[0]), int(rest[1]), kinds_of(rest[2:]))
+        return recorder.start(int(rest[0]), int(rest[1]), *records_of(rest[2:], recorder.probes))
     if name == "time":
         return recorder.time(int(rest[0]))
     if name == "vcd":
@@ -330,7 +364,7 @@ def call(recorder, words):
 def answers(recorder, line):
     """The lines that answer one line."""
     words = line.split(" ")
-    if line == "" or line.startswith("#") or alter(recorder, words):
+    if line == "" or line.startswith("#") or alter(recorder, words) or miscounted(recorder, words):
         return []
     before = replace(recorder.state), [replace(record) for record in recorder.records]
     try:

@@ -1,7 +1,7 @@
 #!/usr/bin/env python3
 # Seeds of the stored list: 20012 and 20014.
 """Writes recordings without a refusal, for `oracle recordings`; `recorder.py` says the form.
-They are of edition 1 of the skip rule, whose rule is the Rust's.
+They are of edition 1 of the skip rule, whose rule is the Rust's, and of one sender, as the Rust knows no other: probe 0.
 
   recordings.py                   the stored list, always the same
   recordings.py SEED COUNT        COUNT random recordings, some with wide vectors

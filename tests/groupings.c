@@ -86,11 +86,16 @@ static uint32_t keep(const char *call, uint32_t wanted, wejumo_outcome done) {
   return done.value;
 }
 
+/* The probes take turns, by the numbers of signals and of times. */
+static uint32_t probe(size_t number) {
+  return number % 2;
+}
+
 static void change(uint32_t signal, uint32_t kind, const uint8_t *value) {
   if (kind == WEJUMO_REAL) {
-    keep("real", WEJUMO_RECORDED, wejumo_real_change(rec.state, LENT, signal, *value));
+    keep("real", WEJUMO_RECORDED, wejumo_real_change(rec.state, LENT, probe(signal), signal, *value));
   } else if (kind != WEJUMO_ABSENT) {
-    keep("value", WEJUMO_RECORDED, wejumo_vcd_value_change(rec.state, LENT, signal, value, 1));
+    keep("value", WEJUMO_RECORDED, wejumo_vcd_value_change(rec.state, LENT, probe(signal), signal, value, 1));
   }
 }
 
@@ -98,12 +103,12 @@ static void record(int row) {
   const struct setting *as = table[row].setting;
   const uint8_t *values = (const uint8_t *)table[row].values;
   names[0] = table[row].name;
-  for (uint32_t s = 0; s < as->signals; s++) rec.records[s] = as->kinds[s];
+  for (uint32_t s = 0; s < as->signals; s++) rec.records[s] = WEJUMO_RECORD(as->kinds[s], probe(s));
   keep("start", WEJUMO_STARTED,
        wejumo_start(rec.state, as->limit, as->signals, WEJUMO_EDITION_1, rec.records, as->signals, rec.times, TIMES, rec.image,
                     IMAGE));
   for (size_t i = 0; values[i]; i++) {
-    keep("time", WEJUMO_TAKEN, wejumo_time_change(rec.state, LENT, table[row].times[i]));
+    keep("time", WEJUMO_TAKEN, wejumo_time_change(rec.state, LENT, probe(i), table[row].times[i]));
     for (uint32_t s = 0; s < as->signals; s++) change(s, as->kinds[s], values + i);
   }
   images[row].length = keep("finish", WEJUMO_FINISHED, wejumo_finish(rec.state, LENT));

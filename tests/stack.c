@@ -15,7 +15,7 @@ enum { WORK = 4 << 20, IMAGE = 8 << 20, OUT = 4 << 20 };
 
 /* All arguments, and the last answers. */
 static wejumo_state state;
-static uint32_t limit = LIMIT, edition, signal_number, claim, block, kind, class_number;
+static uint32_t limit = LIMIT, edition, sender, signal_number, claim, block, kind, class_number;
 static uint64_t time_now, bits;
 static uint64_t records[SIGNALS], times[LIMIT], table[ALL_TIMES];
 static uint8_t work[WORK], first[IMAGE], second[IMAGE], image[IMAGE], bytes[OUT], symbols[SIGNALS], value[SIGNALS + 8];
@@ -44,10 +44,10 @@ static ucontext_t here, there;
 #define LENT records, signals, times, LIMIT, work, WORK, image, IMAGE
 
 CALL(wejumo_start, outcome = wejumo_start(state, limit, (uint32_t)signals, edition, records, signals, times, LIMIT, image, IMAGE))
-CALL(wejumo_time_change, outcome = wejumo_time_change(state, LENT, time_now))
-CALL(wejumo_vcd_value_change, outcome = wejumo_vcd_value_change(state, LENT, signal_number, value, value_length))
-CALL(wejumo_raw_value_change, outcome = wejumo_raw_value_change(state, LENT, signal_number, claim, value, value_length))
-CALL(wejumo_real_change, outcome = wejumo_real_change(state, LENT, signal_number, bits))
+CALL(wejumo_time_change, outcome = wejumo_time_change(state, LENT, sender, time_now))
+CALL(wejumo_vcd_value_change, outcome = wejumo_vcd_value_change(state, LENT, sender, signal_number, value, value_length))
+CALL(wejumo_raw_value_change, outcome = wejumo_raw_value_change(state, LENT, sender, signal_number, claim, value, value_length))
+CALL(wejumo_real_change, outcome = wejumo_real_change(state, LENT, sender, signal_number, bits))
 CALL(wejumo_finish, outcome = wejumo_finish(state, LENT))
 CALL(wejumo_open, number = wejumo_open(image, image_length))
 CALL(wejumo_load, loaded = wejumo_load(image, image_length, signal_number, indices, OUT, bytes, OUT))
@@ -140,13 +140,29 @@ static void changes(uint64_t time) {
   RECORDER(wejumo_real_change, WEJUMO_REFUSED);
 }
 
+/* Changes of a sender that is no probe, or that no record names. */
+static void foreign(uint32_t by) {
+  uint32_t own = sender;
+  sender = by;
+  change(3, "1", 1, WEJUMO_REFUSED);
+  raw(1, 2, 0x08, 1, WEJUMO_REFUSED);
+  signal_number = 4;
+  RECORDER(wejumo_real_change, WEJUMO_REFUSED);
+  sender = own;
+}
+
 /* S at its top, several blocks, changes of every kind at both ends of each, so that stream numbers have up to three bytes. The last signal but
- * one is absent. The image goes to `to`; its length is answered. */
-static size_t record(uint32_t by, uint64_t from, uint8_t *to) {
+ * one is absent. One probe sends all. The image goes to `to`; its length is answered. */
+static size_t record(uint32_t by, uint32_t probe, uint64_t from, uint8_t *to) {
   static const uint32_t kinds[] = {WEJUMO_EVENT, 1, 7, 65536, WEJUMO_REAL};
-  for (size_t i = 0; i < SIGNALS; i++) records[i] = i < 5 ? kinds[i] : i == SIGNALS - 2 ? WEJUMO_ABSENT : 8;
+  for (size_t i = 0; i < SIGNALS; i++) {
+    records[i] = WEJUMO_RECORD(i < 5 ? kinds[i] : i == SIGNALS - 2 ? WEJUMO_ABSENT : 8, probe);
+  }
   edition = by;
   RECORDER(wejumo_start, WEJUMO_STARTED);
+  sender = WEJUMO_LAST_PROBE + 1;
+  RECORDER(wejumo_time_change, WEJUMO_REFUSED);
+  sender = probe;
   signal_number = 0;
   RECORDER(wejumo_real_change, WEJUMO_REFUSED);
   for (uint64_t i = 1; i <= TIMES; i++) {
@@ -154,6 +170,8 @@ static size_t record(uint32_t by, uint64_t from, uint8_t *to) {
     RECORDER(wejumo_time_change, WEJUMO_TAKEN);
     if (i % (LIMIT - 1) > 2) continue;
     changes(i);
+    foreign(WEJUMO_LAST_PROBE + 1);
+    foreign(WEJUMO_LAST_PROBE - probe);
     change(SIGNALS - 1, "x0", 8, WEJUMO_RECORDED);
   }
   time_now = from;
@@ -169,10 +187,10 @@ static size_t record(uint32_t by, uint64_t from, uint8_t *to) {
   return total_bytes;
 }
 
-/* Two recordings that share a time, one by each edition, and the image that both make, which is read below. */
+/* Two recordings that share a time, one by each edition and probe, and the image that both make, which is read below. */
 static void join_both(void) {
-  first_length = record(WEJUMO_EDITION_1, 0, first);
-  second_length = record(WEJUMO_EDITION_2, TIMES - 1, second);
+  first_length = record(WEJUMO_EDITION_1, 0, 0, first);
+  second_length = record(WEJUMO_EDITION_2, 1, TIMES - 1, second);
   MEASURE(wejumo_join);
   want("wejumo_join", joined.answer, WEJUMO_JOINED);
   image_length = joined.value;

@@ -3,6 +3,9 @@
 use crate::workload::{Call, Workload};
 use wejumo::{Answer, Edition, Kind, Recorder, State};
 
+/// It sends all, as the Rust knows no other.
+const PROBE: u8 = 0;
+
 /// The records and the first time.
 pub type Overwritten = (Vec<u64>, u64);
 
@@ -16,7 +19,11 @@ pub struct Ours {
 impl Ours {
     pub fn new(w: &Workload) -> Ours {
         Ours {
-            records: w.kinds.iter().map(|kind| Kind::from_number(*kind).record()).collect(),
+            records: w
+                .kinds
+                .iter()
+                .map(|kind| Kind::from_number(*kind).record(PROBE))
+                .collect(),
             times: vec![1; w.limit as usize],
             work: vec![1; w.room()],
             image: vec![1; 16 + 4 * w.kinds.len() + w.room() + w.blocks() * (12 + 4 * w.kinds.len())],
@@ -68,12 +75,13 @@ impl Ours {
 }
 
 fn calls(r: &mut Recorder, w: &Workload) {
+    let sender = PROBE.into();
     for call in &w.calls {
         let said = match *call {
-            Call::Time(time) => r.time(time),
-            Call::Vcd(signal, at, length) => r.vcd(signal, w.part(at, length)),
-            Call::Raw(signal, claim, at, length) => r.raw(signal, claim.into(), w.part(at, length)),
-            Call::Real(signal, bits) => r.real(signal, bits),
+            Call::Time(time) => r.time(sender, time),
+            Call::Vcd(signal, at, length) => r.vcd(sender, signal, w.part(at, length)),
+            Call::Raw(signal, claim, at, length) => r.raw(sender, signal, claim.into(), w.part(at, length)),
+            Call::Real(signal, bits) => r.real(sender, signal, bits),
         };
         assert!(said.is_ok());
     }

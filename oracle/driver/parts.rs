@@ -1,4 +1,4 @@
-//! Where the Rust parts from document 01, and at a value, a skip and joins from document 02, each place by its smallest input. docs/DIFFERENCES.md has the tables;
+//! Where the Rust parts from document 01, and at a value, skips and joins from document 02, each place by its smallest input. docs/DIFFERENCES.md has the tables;
 //! `selftest` runs them.
 
 use super::*;
@@ -147,6 +147,14 @@ fn returning() {
     assert!(!skips(&[2, 1, 3]), "a larger time ends it");
 }
 
+/// Where document 02's two probes part from the Rust: it has one skip for all.
+fn one_sender() {
+    let mut encoder = timed(SignalEncoding::BitVector(1), &[2, 1]);
+    encoder.vcd_value_change(0, b"1");
+    let signal = encoder.signals[0].as_ref().unwrap();
+    assert!(signal.data.is_empty(), "a skip, whoever sent the time");
+}
+
 /// What document 02 refuses at a join with 15 and 16, and what it takes.
 fn appending() {
     let bit = SignalEncoding::BitVector(1);
@@ -200,6 +208,7 @@ pub(super) fn selftest() {
     numbers();
     reading();
     returning();
+    one_sender();
     appending();
     appending_unlike();
 }

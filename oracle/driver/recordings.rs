@@ -29,6 +29,10 @@ fn kind(word: &str) -> Option<Kind> {
 pub(super) enum Call {
     /// Of the skip rule, for the starts that follow.
     Edition(u32),
+    /// Of the signals, for the starts that follow.
+    Probes(Vec<u8>),
+    /// Of the times and changes that follow.
+    Sender(u32),
     Start(BlockTimeIdx, Vec<Kind>),
     Time(Time),
     Change(usize, Change),
@@ -39,6 +43,11 @@ pub(super) fn call(line: &str) -> Option<Call> {
     let words: Vec<&str> = line.split(' ').collect();
     Some(match words[..] {
         ["edition", number] => Call::Edition(number.parse().ok()?),
+        ["probes", ..] => {
+            let probes = words[1..].iter().map(|probe| probe.parse().ok());
+            Call::Probes(probes.collect::<Option<Vec<u8>>>()?)
+        }
+        ["sender", number] => Call::Sender(number.parse().ok()?),
         ["start", signals, limit, ..] => {
             let kinds: Option<Vec<Kind>> = words[3..].iter().copied().map(kind).collect();
             let kinds = kinds.filter(|kinds| Ok(kinds.len()) == signals.parse())?;
@@ -314,8 +323,10 @@ pub fn recordings(wanted: Wanted) {
     let mut open = None;
     for (number, line) in std::io::stdin().lock().lines().enumerate() {
         match call(&line.unwrap()) {
-            Some(Call::Edition(1)) => {} // the only one that the Rust knows
-            Some(Call::Edition(_)) | None => {
+            // the only edition, and the only probe, that the Rust knows
+            Some(Call::Edition(1) | Call::Sender(0)) => {}
+            Some(Call::Probes(probes)) if probes.iter().all(|probe| *probe == 0) => {}
+            Some(Call::Edition(_) | Call::Sender(_) | Call::Probes(_)) | None => {
                 out.flush().unwrap();
                 eprintln!("oracle: line {} is no call", number + 1);
                 std::process::exit(2);

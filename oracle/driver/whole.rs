@@ -17,9 +17,21 @@ pub enum Value {
 
 #[derive(Clone, Debug, PartialEq)]
 pub enum Step {
-    Time(u64),
-    Change(u32, Value),
+    /// The sender, and when it was.
+    Time(u32, u64),
+    /// The sender, the signal and its value.
+    Change(u32, u32, Value),
     Finish,
+}
+
+impl Step {
+    /// A finish has none.
+    pub fn sender(&self) -> Option<u32> {
+        match self {
+            Step::Time(sender, _) | Step::Change(sender, ..) => Some(*sender),
+            Step::Finish => None,
+        }
+    }
 }
 
 pub const REAL: u32 = 0xffff_fffe;
@@ -144,8 +156,8 @@ fn made_by(limit: u16, kinds: &[u32], steps: &[Step]) -> Made {
     let mut answers = Vec::new();
     for step in steps {
         answers.push(match step {
-            Step::Time(now) => time(&mut encoder, *now),
-            Step::Change(signal, value) => {
+            Step::Time(_, now) => time(&mut encoder, *now),
+            Step::Change(_, signal, value) => {
                 let value = change_of(value).expect("a claim of 0, 1 or 2");
                 change(&mut encoder, *signal as usize, &value)
             }
@@ -167,9 +179,22 @@ fn unless_panics<T>(run: impl FnOnce() -> T) -> Option<T> {
 }
 
 /// Nothing if the Rust panics.
-pub fn made(edition: u32, limit: u16, kinds: &[u32], steps: &[Step]) -> Option<Made> {
+pub fn made(
+    edition: u32,
+    limit: u16,
+    kinds: &[u32],
+    probes: &[u8],
+    steps: &[Step],
+) -> Option<Made> {
     assert_eq!(edition, 1, "the Rust knows no other");
+    assert!(of_probe_0(probes, steps), "the Rust knows no other");
     unless_panics(|| made_by(limit, kinds, steps))
+}
+
+/// Whether probe 0 sends all that is sent.
+pub fn of_probe_0(probes: &[u8], steps: &[Step]) -> bool {
+    let mut senders = steps.iter().filter_map(Step::sender);
+    senders.all(|sender| sender == 0) && probes.iter().all(|probe| *probe == 0)
 }
 
 impl Made {
@@ -206,41 +231,57 @@ impl Made {
 }
 
 /// Nothing if the Rust panics.
-pub fn whole(edition: u32, limit: u16, kinds: &[u32], steps: &[Step]) -> Option<Whole> {
-    made(edition, limit, kinds, steps)?.whole()
+pub fn whole(
+    edition: u32,
+    limit: u16,
+    kinds: &[u32],
+    probes: &[u8],
+    steps: &[Step],
+) -> Option<Whole> {
+    made(edition, limit, kinds, probes, steps)?.whole()
 }
 
-/// A recording's edition, limit, kinds and calls.
-pub type Sheet = (u32, u16, Vec<u32>, Vec<Step>);
+/// A recording's edition, limit, kinds, probes and calls.
+pub type Sheet = (u32, u16, Vec<u32>, Vec<u8>, Vec<Step>);
 
-/// The recordings of a text in the form that `oracle recordings` reads.
+fn value_of(change: Change) -> Value {
+    match change {
+        Change::Vcd(text) => Value::Vcd(text),
+        Change::Raw(states, bytes) => Value::Raw(states as u32, bytes),
+        Change::Real(real) => Value::Real(real.to_bits()),
+    }
+}
+
+/// The recordings of a text in the form that `oracle recordings` reads, of any edition and any probes.
 pub fn sheets(text: &str) -> Option<Vec<Sheet>> {
     let mut sheets: Vec<Sheet> = Vec::new();
-    let mut edition = 1;
+    let (mut edition, mut probes, mut sender) = (1, None, 0);
     for line in text.lines() {
         let step = match call(line)? {
             Call::Edition(chosen) => {
                 edition = chosen;
                 continue;
             }
-            Call::Start(limit, kinds) => {
-                let numbers = kinds.iter().map(recordings::kind_number).collect();
-                sheets.push((edition, limit, numbers, Vec::new()));
+            Call::Probes(named) => {
+                probes = Some(named);
                 continue;
             }
-            Call::Time(time) => Step::Time(time),
-            Call::Change(signal, Change::Vcd(text)) => {
-                Step::Change(signal as u32, Value::Vcd(text))
+            Call::Sender(named) => {
+                sender = named;
+                continue;
             }
-            Call::Change(signal, Change::Raw(states, bytes)) => {
-                Step::Change(signal as u32, Value::Raw(states as u32, bytes))
+            Call::Start(limit, kinds) => {
+                let numbers: Vec<u32> = kinds.iter().map(recordings::kind_number).collect();
+                let named = probes.clone().unwrap_or_else(|| vec![0; kinds.len()]);
+                let named = Some(named).filter(|named| named.len() == kinds.len())?;
+                sheets.push((edition, limit, numbers, named, Vec::new()));
+                continue;
             }
-            Call::Change(signal, Change::Real(real)) => {
-                Step::Change(signal as u32, Value::Real(real.to_bits()))
-            }
+            Call::Time(time) => Step::Time(sender, time),
+            Call::Change(signal, change) => Step::Change(sender, signal as u32, value_of(change)),
             Call::Finish => Step::Finish,
         };
-        sheets.last_mut()?.3.push(step);
+        sheets.last_mut()?.4.push(step);
     }
     Some(sheets)
 }

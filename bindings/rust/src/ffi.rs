@@ -13,6 +13,8 @@ pub struct State {
     pub skip: u32,
     pub skipped: u32,
     pub edition: u32,
+    pub skip_1: u32,
+    pub skipped_1: u32,
 }
 
 #[repr(C)]
@@ -77,8 +79,8 @@ macro_rules! layout {
 }
 
 const _: () = assert!(usize::BITS == 64);
-layout!(State, 48, closed 0, limit 4, signals 8, held 12, work 16, image 24, blocks 28, skip 32, skipped 36, edition 40);
-layout!(Outcome, 56, answer 0, value 4, state 8);
+layout!(State, 56, closed 0, limit 4, signals 8, held 12, work 16, image 24, blocks 28, skip 32, skipped 36, edition 40, skip_1 44, skipped_1 48);
+layout!(Outcome, 64, answer 0, value 4, state 8);
 layout!(LoadAnswer, 12, answer 0, value 4, signal_class 8);
 layout!(TableAnswer, 8, answer 0, value 4);
 layout!(JoinAnswer, 8, answer 0, value 4);
@@ -94,20 +96,21 @@ extern "C" {
     ) -> Outcome;
     pub fn wejumo_time_change(
         state: State, records: *mut u64, records_length: usize, times: *mut u64, times_length: usize, work: *const u8,
-        work_length: usize, image: *mut u8, image_length: usize, time: u64,
+        work_length: usize, image: *mut u8, image_length: usize, sender: u32, time: u64,
     ) -> Outcome;
     pub fn wejumo_vcd_value_change(
         state: State, records: *mut u64, records_length: usize, times: *const u64, times_length: usize, work: *mut u8,
-        work_length: usize, image: *const u8, image_length: usize, signal: u32, value: *const u8, value_length: usize,
+        work_length: usize, image: *const u8, image_length: usize, sender: u32, signal: u32, value: *const u8,
+        value_length: usize,
     ) -> Outcome;
     pub fn wejumo_raw_value_change(
         state: State, records: *mut u64, records_length: usize, times: *const u64, times_length: usize, work: *mut u8,
-        work_length: usize, image: *const u8, image_length: usize, signal: u32, claim: u32, value: *const u8,
-        value_length: usize,
+        work_length: usize, image: *const u8, image_length: usize, sender: u32, signal: u32, claim: u32,
+        value: *const u8, value_length: usize,
     ) -> Outcome;
     pub fn wejumo_real_change(
         state: State, records: *mut u64, records_length: usize, times: *const u64, times_length: usize, work: *mut u8,
-        work_length: usize, image: *const u8, image_length: usize, signal: u32, bits: u64,
+        work_length: usize, image: *const u8, image_length: usize, sender: u32, signal: u32, bits: u64,
     ) -> Outcome;
     pub fn wejumo_finish(
         state: State, records: *mut u64, records_length: usize, times: *mut u64, times_length: usize, work: *const u8,

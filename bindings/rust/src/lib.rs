@@ -16,7 +16,7 @@ pub use image::{
 };
 pub use recorder::{Answer, Edition, Recorder};
 
-/// The number of a refusal: 1 to 11, and 14 to 16 of a join.
+/// The number of a refusal: 1 to 11, 14 to 16 of a join, and 18 of a sender.
 #[derive(Clone, Copy, Debug, PartialEq, Eq)]
 pub struct Refusal(pub u32);
 
@@ -47,9 +47,9 @@ impl Kind {
         }
     }
 
-    /// The record of a signal of this kind before a start.
-    pub fn record(self) -> u64 {
-        self.number().into()
+    /// The record of a signal of this kind before a start, with the probe that sends its changes; a start refuses any but 0 and 1.
+    pub fn record(self, probe: u8) -> u64 {
+        u64::from(self.number()) + (u64::from(probe) << 32)
     }
 }
 

@@ -3,7 +3,8 @@
 use crate::ffi::{self, Outcome, State};
 use crate::{numbers, Refusal};
 
-/// Editions of the skip rule. A time below the last one starts a skip: the changes that follow are counted, not recorded, until it ends.
+/// Editions of the skip rule. A time below the last one starts a skip of the probe that sent it: the changes that this probe sends are counted,
+/// not recorded, until one of its times ends the skip.
 #[derive(Clone, Copy, Debug, PartialEq, Eq)]
 pub enum Edition {
     /// Only a time above the last one ends a skip.
@@ -35,6 +36,9 @@ pub enum Answer {
 }
 
 /// A recording over lent buffers: a record of each signal, times for a block, work for a block, the image.
+///
+/// Two probes, 0 and 1, send times and changes; another sender, and a change of a signal whose record does not name its sender, is refused with 18.
+/// A time is held against the last one, and a change falls at the last one, whoever sent that.
 ///
 /// A refused call leaves state and buffers as they were.
 pub struct Recorder<'a> {
@@ -68,9 +72,9 @@ impl<'a> Recorder<'a> {
         self.state
     }
 
-    /// How many changes were skipped.
-    pub fn skipped(&self) -> u32 {
-        self.state.skipped
+    /// How many changes were skipped, of each probe.
+    pub fn skipped(&self) -> [u32; 2] {
+        [self.state.skipped, self.state.skipped_1]
     }
 
     /// The used bytes of the image buffer: the image, after a finish.
@@ -101,7 +105,7 @@ impl<'a> Recorder<'a> {
         self.keep(done)
     }
 
-    pub fn time(&mut self, time: u64) -> Result<Answer, Refusal> {
+    pub fn time(&mut self, sender: u32, time: u64) -> Result<Answer, Refusal> {
         // Safety: as for start.
         let done = unsafe {
             ffi::wejumo_time_change(
@@ -114,6 +118,7 @@ impl<'a> Recorder<'a> {
                 self.work.len(),
                 self.image.as_mut_ptr(),
                 self.image.len(),
+                sender,
                 time,
             )
         };
@@ -121,7 +126,7 @@ impl<'a> Recorder<'a> {
     }
 
     /// A value in VCD text.
-    pub fn vcd(&mut self, signal: u32, value: &[u8]) -> Result<Answer, Refusal> {
+    pub fn vcd(&mut self, sender: u32, signal: u32, value: &[u8]) -> Result<Answer, Refusal> {
         // Safety: as for start; `value` is borrowed beside them.
         let done = unsafe {
             ffi::wejumo_vcd_value_change(
@@ -134,6 +139,7 @@ impl<'a> Recorder<'a> {
                 self.work.len(),
                 self.image.as_ptr(),
                 self.image.len(),
+                sender,
                 signal,
                 value.as_ptr(),
                 value.len(),
@@ -143,7 +149,7 @@ impl<'a> Recorder<'a> {
     }
 
     /// Packed symbols, with the class that they claim.
-    pub fn raw(&mut self, signal: u32, claim: u32, value: &[u8]) -> Result<Answer, Refusal> {
+    pub fn raw(&mut self, sender: u32, signal: u32, claim: u32, value: &[u8]) -> Result<Answer, Refusal> {
         // Safety: as for vcd.
         let done = unsafe {
             ffi::wejumo_raw_value_change(
@@ -156,6 +162,7 @@ impl<'a> Recorder<'a> {
                 self.work.len(),
                 self.image.as_ptr(),
                 self.image.len(),
+                sender,
                 signal,
                 claim,
                 value.as_ptr(),
@@ -166,7 +173,7 @@ impl<'a> Recorder<'a> {
     }
 
     /// A real, by its bits (`f64::to_bits`).
-    pub fn real(&mut self, signal: u32, bits: u64) -> Result<Answer, Refusal> {
+    pub fn real(&mut self, sender: u32, signal: u32, bits: u64) -> Result<Answer, Refusal> {
         // Safety: as for start.
         let done = unsafe {
             ffi::wejumo_real_change(
@@ -179,6 +186,7 @@ impl<'a> Recorder<'a> {
                 self.work.len(),
                 self.image.as_ptr(),
                 self.image.len(),
+                sender,
                 signal,
                 bits,
             )

@@ -1,6 +1,8 @@
-//! The recording of the bench sheet, refusals, editions of the skip rule, reads with and without opening, and joins.
+//! The recording of the bench sheet, refusals, editions of the skip rule, reads with and without opening, and joins; two senders: probes.rs.
 
 use crate::*;
+
+mod probes;
 
 const EDITIONS: [Edition; 2] = [Edition::One, Edition::Two];
 
@@ -22,20 +24,20 @@ fn sheet() -> Vec<u8> {
 }
 
 fn sheet_by(edition: Edition) -> Vec<u8> {
-    let (mut records, mut times) = ([Kind::Vector(1).record(), Kind::Vector(4).record()], [0; 4]);
+    let (mut records, mut times) = ([Kind::Vector(1).record(0), Kind::Vector(4).record(0)], [0; 4]);
     let (mut work, mut image) = ([0; 64], [0; 80]);
     let mut recorder = Recorder::new(&mut records, &mut times, &mut work, &mut image);
     assert_eq!(recorder.start(4, edition), Ok(Answer::Started));
-    assert_eq!(recorder.vcd(0, b"1"), Err(Refusal(3)));
-    assert_eq!(recorder.time(10), Ok(Answer::Taken));
-    assert_eq!(recorder.vcd(0, b"1"), Ok(Answer::Recorded));
-    assert_eq!(recorder.vcd(1, b"b1x"), Ok(Answer::Recorded));
-    assert_eq!(recorder.vcd(2, b"1"), Err(Refusal(4)));
-    assert_eq!(recorder.real(1, 0), Err(Refusal(5)));
-    assert_eq!(recorder.raw(1, 3, &[0]), Err(Refusal(6)));
-    assert_eq!(recorder.time(20), Ok(Answer::Taken));
-    assert_eq!(recorder.time(20), Ok(Answer::Same));
-    assert_eq!(recorder.vcd(1, b"b0001"), Ok(Answer::Recorded));
+    assert_eq!(recorder.vcd(0, 0, b"1"), Err(Refusal(3)));
+    assert_eq!(recorder.time(0, 10), Ok(Answer::Taken));
+    assert_eq!(recorder.vcd(0, 0, b"1"), Ok(Answer::Recorded));
+    assert_eq!(recorder.vcd(0, 1, b"b1x"), Ok(Answer::Recorded));
+    assert_eq!(recorder.vcd(0, 2, b"1"), Err(Refusal(4)));
+    assert_eq!(recorder.real(0, 1, 0), Err(Refusal(5)));
+    assert_eq!(recorder.raw(0, 1, 3, &[0]), Err(Refusal(6)));
+    assert_eq!(recorder.time(0, 20), Ok(Answer::Taken));
+    assert_eq!(recorder.time(0, 20), Ok(Answer::Same));
+    assert_eq!(recorder.vcd(0, 1, b"b0001"), Ok(Answer::Recorded));
     assert_eq!(recorder.finish(), Ok(Answer::Finished(67)));
     assert_eq!(recorder.finish(), Err(Refusal(2)));
     recorder.image().to_vec()
@@ -115,14 +117,14 @@ fn nothing_before_the_first_change() {
 fn nothing_before_a_first_change_in_a_later_block() {
     let bits = 0x7FF0_0000_0000_0001;
     let bytes = recorded(&[0, numbers::REAL, 2, 1], 2, |r| {
-        r.time(3)?;
-        r.time(5)?;
-        r.vcd(0, b"1")?;
-        r.vcd(0, b"1")?;
-        r.time(7)?;
-        r.real(1, bits)?;
-        r.vcd(2, b"0x")?;
-        r.vcd(2, b"11")
+        r.time(0, 3)?;
+        r.time(0, 5)?;
+        r.vcd(0, 0, b"1")?;
+        r.vcd(0, 0, b"1")?;
+        r.time(0, 7)?;
+        r.real(0, 1, bits)?;
+        r.vcd(0, 2, b"0x")?;
+        r.vcd(0, 2, b"11")
     });
     for time in [0, 3, 4] {
         assert_eq!(at(&bytes, 0, time, 0), (Ok(Cursor::Nothing), vec![]));
@@ -214,11 +216,13 @@ fn refusals_keep_every_number() {
             skip: !flag,
             skipped: 26,
             edition: 27,
+            skip_1: 28,
+            skipped_1: 29,
         };
         let (mut records, mut times, mut work, mut image) = ([5; 1], [6; 2], [7; 3], [8; 4]);
         let mut recorder = Recorder::resume(state, &mut records, &mut times, &mut work, &mut image);
-        assert_eq!(recorder.time(1), Err(Refusal(2)));
-        assert_eq!(recorder.vcd(0, b"1"), Err(Refusal(2)));
+        assert_eq!(recorder.time(0, 1), Err(Refusal(2)));
+        assert_eq!(recorder.vcd(0, 0, b"1"), Err(Refusal(2)));
         assert_eq!(recorder.finish(), Err(Refusal(2)));
         assert_eq!(recorder.start(1, Edition::Two), Err(Refusal(1)));
         assert_eq!(recorder.state(), state);
@@ -231,29 +235,29 @@ fn a_flag_keeps_its_number_or_becomes_one() {
     let (mut records, mut times, mut work, mut image) = ([0; 1], [0; 2], [0; 32], [0; 64]);
     let mut recorder = Recorder::new(&mut records, &mut times, &mut work, &mut image);
     assert_eq!(recorder.start(2, Edition::One), Ok(Answer::Started));
-    assert_eq!(recorder.time(5), Ok(Answer::Taken));
-    assert_eq!(recorder.time(4), Ok(Answer::Back));
+    assert_eq!(recorder.time(0, 5), Ok(Answer::Taken));
+    assert_eq!(recorder.time(0, 4), Ok(Answer::Back));
     assert_eq!(recorder.state().skip, 1);
     let state = State {
         skip: 7,
         ..recorder.state()
     };
     let mut recorder = Recorder::resume(state, &mut records, &mut times, &mut work, &mut image);
-    assert_eq!(recorder.vcd(0, b""), Ok(Answer::Skipped));
-    assert_eq!((recorder.state().skip, recorder.skipped()), (7, 1));
-    assert_eq!(recorder.time(6), Ok(Answer::Taken));
+    assert_eq!(recorder.vcd(0, 0, b""), Ok(Answer::Skipped));
+    assert_eq!((recorder.state().skip, recorder.skipped()), (7, [1, 0]));
+    assert_eq!(recorder.time(0, 6), Ok(Answer::Taken));
     assert_eq!(recorder.state().skip, 0);
     assert_eq!(recorder.finish().map(|_| recorder.state().closed), Ok(1));
 }
 
-/// What these calls on an event answer (v is a change), how many changes were skipped, and the image left.
-fn slips(edition: Edition) -> (Vec<Answer>, u32, Vec<u8>) {
+/// What these calls on an event answer (v is a change), how many changes of each probe were skipped, and the image left.
+fn slips(edition: Edition) -> (Vec<Answer>, [u32; 2], Vec<u8>) {
     let (mut records, mut times, mut work, mut image) = ([0; 1], [0; 2], [0; 32], [0; 64]);
     let mut recorder = Recorder::new(&mut records, &mut times, &mut work, &mut image);
     assert_eq!(recorder.start(2, edition), Ok(Answer::Started));
     let said = "10 5 v 10 v 10 v 9 9 v".split(' ').map(|word| match word.parse() {
-        Ok(time) => recorder.time(time).unwrap(),
-        Err(_) => recorder.vcd(0, b"1").unwrap(),
+        Ok(time) => recorder.time(0, time).unwrap(),
+        Err(_) => recorder.vcd(0, 0, b"1").unwrap(),
     });
     let said = said.collect();
     recorder.finish().unwrap();
@@ -268,7 +272,7 @@ fn an_equal_time_leaves_a_skip_in_edition_1() {
         said,
         [Taken, Back, Skipped, Same, Skipped, Same, Skipped, Back, Back, Skipped]
     );
-    assert_eq!(skipped, 4);
+    assert_eq!(skipped, [4, 0]);
     assert_eq!(shown(&image, 0), (States::Nine, vec![], vec![], vec![10]));
 }
 
@@ -280,7 +284,7 @@ fn an_equal_time_ends_a_skip_in_edition_2() {
         said,
         [Taken, Back, Skipped, Same, Recorded, Same, Recorded, Back, Back, Skipped]
     );
-    assert_eq!(skipped, 2);
+    assert_eq!(skipped, [2, 0]);
     assert_eq!(shown(&image, 0), (States::Two, vec![0, 0], vec![], vec![10]));
 }
 
@@ -289,18 +293,18 @@ fn an_equal_time_ends_a_skip_in_edition_2() {
 fn without_an_equal_time_in_a_skip_editions_are_alike() {
     let [one, two] = EDITIONS.map(|edition| {
         recorded_by(edition, &[0, numbers::REAL, 2], 2, |r| {
-            r.time(3)?;
-            r.time(3)?;
-            r.vcd(0, b"1")?;
-            r.time(5)?;
-            r.vcd(2, b"1x")?;
-            r.time(7)?;
-            r.time(7)?;
-            r.real(1, 1)?;
-            r.time(6)?;
-            r.vcd(0, b"1")?;
-            r.time(9)?;
-            r.vcd(2, b"11")
+            r.time(0, 3)?;
+            r.time(0, 3)?;
+            r.vcd(0, 0, b"1")?;
+            r.time(0, 5)?;
+            r.vcd(0, 2, b"1x")?;
+            r.time(0, 7)?;
+            r.time(0, 7)?;
+            r.real(0, 1, 1)?;
+            r.time(0, 6)?;
+            r.vcd(0, 0, b"1")?;
+            r.time(0, 9)?;
+            r.vcd(0, 2, b"11")
         })
     });
     assert_eq!(one, two);
@@ -320,19 +324,24 @@ fn only_editions_1_and_2_start() {
         closed: 1,
         skipped: 5,
         edition: 2,
+        skip_1: 1,
+        skipped_1: 6,
         ..State::default()
     };
     for edition in [0, 1, 2, 3, u32::MAX] {
-        let (mut records, times, mut image) = ([7 << 32], [6; 2], [8; 20]);
+        let (mut records, times, mut image) = ([7 << 40], [6; 2], [8; 20]);
         let (r, t, i) = (records.as_mut_ptr(), times.as_ptr(), image.as_mut_ptr());
         // Safety: the arrays are borrowed, and each is one of its own.
         let done = unsafe { ffi::wejumo_start(state, 2, 1, edition, r, 1, t, 2, i, 20) };
         if edition == 1 || edition == 2 {
-            let started = (done.answer, done.state.edition, done.state.skipped);
-            assert_eq!(started, (numbers::STARTED, edition, 0));
+            let skips = [done.state.skipped, done.state.skip_1, done.state.skipped_1];
+            assert_eq!(
+                (done.answer, done.state.edition, skips),
+                (numbers::STARTED, edition, [0; 3])
+            );
         } else {
             assert_eq!((done.answer, done.value, done.state), (0, 1, state));
-            assert_eq!((records, times, image), ([7 << 32], [6; 2], [8; 20]));
+            assert_eq!((records, times, image), ([7 << 40], [6; 2], [8; 20]));
         }
     }
 }
@@ -342,12 +351,12 @@ type Buffers = ([u64; 2], [u64; 2], [u8; 64], [u8; 128]);
 
 /// The state and the buffers after a start, the time 5, a change and this time.
 fn left_after(edition: Edition, last: u64) -> (State, Buffers) {
-    let (mut records, mut times, mut work, mut image) = ([1, Kind::Real.record()], [0; 2], [0; 64], [0; 128]);
+    let (mut records, mut times, mut work, mut image) = ([1, Kind::Real.record(0)], [0; 2], [0; 64], [0; 128]);
     let mut recorder = Recorder::new(&mut records, &mut times, &mut work, &mut image);
     assert_eq!(recorder.start(2, edition), Ok(Answer::Started));
-    assert_eq!(recorder.time(5), Ok(Answer::Taken));
-    assert_eq!(recorder.vcd(0, b"1"), Ok(Answer::Recorded));
-    recorder.time(last).unwrap();
+    assert_eq!(recorder.time(0, 5), Ok(Answer::Taken));
+    assert_eq!(recorder.vcd(0, 0, b"1"), Ok(Answer::Recorded));
+    recorder.time(0, last).unwrap();
     (recorder.state(), (records, times, work, image))
 }
 
@@ -356,11 +365,11 @@ fn all_refused(state: State, buffers: &Buffers, number: u32) {
     let (mut records, mut times, mut work, mut image) = *buffers;
     let mut recorder = Recorder::resume(state, &mut records, &mut times, &mut work, &mut image);
     for time in [4, 5, 6, 7] {
-        assert_eq!(recorder.time(time), Err(Refusal(number)));
+        assert_eq!(recorder.time(0, time), Err(Refusal(number)));
     }
-    assert_eq!(recorder.vcd(0, b"1"), Err(Refusal(number)));
-    assert_eq!(recorder.raw(0, 0, &[1]), Err(Refusal(number)));
-    assert_eq!(recorder.real(1, 0), Err(Refusal(number)));
+    assert_eq!(recorder.vcd(0, 0, b"1"), Err(Refusal(number)));
+    assert_eq!(recorder.raw(0, 0, 0, &[1]), Err(Refusal(number)));
+    assert_eq!(recorder.real(0, 1, 0), Err(Refusal(number)));
     assert_eq!(recorder.finish(), Err(Refusal(number)));
     assert_eq!(recorder.state(), state);
     assert_eq!((records, times, work, image), *buffers);
@@ -383,7 +392,7 @@ fn an_altered_edition_is_told() {
 #[test]
 fn no_width_is_taken_for_another_kind() {
     for width in [65_537, 0xFFFF_FFFD, 0xFFFF_FFFE, 0xFFFF_FFFF] {
-        let (mut records, mut times, mut work, mut image) = ([Kind::Vector(width).record()], [0; 2], [0; 32], [0; 64]);
+        let (mut records, mut times, mut work, mut image) = ([Kind::Vector(width).record(0)], [0; 2], [0; 32], [0; 64]);
         let mut recorder = Recorder::new(&mut records, &mut times, &mut work, &mut image);
         assert_eq!(recorder.start(2, Edition::One), Err(Refusal(1)));
     }
@@ -411,19 +420,19 @@ fn short_vectors_extend() {
 
 #[test]
 fn h_and_l_do_not_extend() {
-    let (mut records, mut times, mut work, mut image) = ([Kind::Vector(3).record()], [0; 2], [0; 32], [0; 64]);
+    let (mut records, mut times, mut work, mut image) = ([Kind::Vector(3).record(0)], [0; 2], [0; 32], [0; 64]);
     let mut recorder = Recorder::new(&mut records, &mut times, &mut work, &mut image);
     assert_eq!(recorder.start(2, Edition::One), Ok(Answer::Started));
-    assert_eq!(recorder.time(5), Ok(Answer::Taken));
+    assert_eq!(recorder.time(0, 5), Ok(Answer::Taken));
     let state = recorder.state();
     for value in [b"h".as_slice(), b"H", b"l", b"l1", b"bL", b"0bh"] {
-        assert_eq!(recorder.vcd(0, value), Err(Refusal(6)));
+        assert_eq!(recorder.vcd(0, 0, value), Err(Refusal(6)));
         assert_eq!(recorder.state(), state);
     }
-    assert_eq!(recorder.vcd(0, b"hl1"), Ok(Answer::Recorded));
+    assert_eq!(recorder.vcd(0, 0, b"hl1"), Ok(Answer::Recorded));
     assert_eq!(
         (records, work[8..11].to_vec()),
-        ([Kind::Vector(3).record() + (2 << 32)], vec![2, 4, 0x71])
+        ([Kind::Vector(3).record(0) + (2 << 40)], vec![2, 4, 0x71])
     );
 }
 
@@ -441,7 +450,7 @@ fn recorded(kinds: &[u32], limit: u32, calls: impl Fn(&mut Recorder) -> Result<A
 fn recorded_by(
     edition: Edition, kinds: &[u32], limit: u32, calls: impl Fn(&mut Recorder) -> Result<Answer, Refusal>,
 ) -> Vec<u8> {
-    let mut records: Vec<u64> = kinds.iter().map(|kind| Kind::from_number(*kind).record()).collect();
+    let mut records: Vec<u64> = kinds.iter().map(|kind| Kind::from_number(*kind).record(0)).collect();
     let (mut times, mut work, mut image) = ([0; 4], [0; 64], [0; 256]);
     let mut recorder = Recorder::new(&mut records, &mut times, &mut work, &mut image);
     assert_eq!(recorder.start(limit, edition), Ok(Answer::Started));
@@ -459,8 +468,8 @@ fn empty(kinds: &[u32], limit: u32) -> Vec<u8> {
 fn of_times(kind: u32, changes: &[(u64, &[u8])]) -> Vec<u8> {
     recorded(&[kind], 2, |r| {
         changes.iter().try_fold(Answer::Started, |_, (time, value)| {
-            r.time(*time)?;
-            r.vcd(0, value)
+            r.time(0, *time)?;
+            r.vcd(0, 0, value)
         })
     })
 }
@@ -499,17 +508,17 @@ const JOINED: &str =
 #[test]
 fn a_join_drops_repeats_over_the_seam() {
     let first = recorded(&[1, 2], 4, |r| {
-        r.time(1)?;
-        r.vcd(0, b"1")?;
-        r.time(5)?;
-        r.raw(1, 2, &[0x11])
+        r.time(0, 1)?;
+        r.vcd(0, 0, b"1")?;
+        r.time(0, 5)?;
+        r.raw(0, 1, 2, &[0x11])
     });
     let second = recorded(&[1, 2], 4, |r| {
-        r.time(5)?;
-        r.vcd(0, b"1")?;
-        r.vcd(1, b"11")?;
-        r.time(9)?;
-        r.vcd(0, b"0")
+        r.time(0, 5)?;
+        r.vcd(0, 0, b"1")?;
+        r.vcd(0, 1, b"11")?;
+        r.time(0, 9)?;
+        r.vcd(0, 0, b"0")
     });
     let whole = bytes_of(JOINED);
     for room in 0..120 {
@@ -543,9 +552,9 @@ fn three_joined_at_one_time() {
 fn a_join_with_a_gap() {
     let (first, second) = (
         recorded(&[1], 2, |r| {
-            r.time(1)?;
-            r.vcd(0, b"0")?;
-            r.time(2)
+            r.time(0, 1)?;
+            r.vcd(0, 0, b"0")?;
+            r.time(0, 2)
         }),
         of_times(1, &[(7, b"x")]),
     );
@@ -584,7 +593,7 @@ fn refusals_of_a_join_in_order() {
         of_times(1, &[(5, b"0")]),
         of_times(1, &[(7, b"x")]),
     );
-    let (none, no_signal, of_limit_3) = (empty(&[1], 2), empty(&[], 2), recorded(&[1], 3, |r| r.time(1)));
+    let (none, no_signal, of_limit_3) = (empty(&[1], 2), empty(&[], 2), recorded(&[1], 3, |r| r.time(0, 1)));
     let (short, mut other_total) = (&early[..early.len() - 1], early.clone());
     other_total[12] += 1;
     let cases: [(&[u8], &[u8], u32); 19] = [

@@ -23,7 +23,8 @@ use Rattle.stream.specs.Answer.{changeNumber, tailLength, changeLength}
 use Rattle.recording.specs.declared.Encoder.{Encoder}
 use Rattle.recording.specs.declared.SignalRecord.{SignalRecord}
 use Rattle.recording.specs.Memory.{Tests, first, guarded}
-use Rattle.recording.specs.Refusals.{stateTests, earlyTests}
+use Rattle.recording.specs.Refusals.{noProbe, stateTests, earlyTests, signalTests}
+use Rattle.recording.specs.State.{skipOf}
 use Rattle.recording.proofs.TestsLaws.{guarded-none, guarded-first}
 use Rattle.refusals.proofs.StateLaws.{state-positive, sound}
 use Rattle.admission.specs.declared.Admission.{Admission}
@@ -34,28 +35,35 @@ use Rattle.admission.specs.Stages.{admissionOf, itemStartOf}
 -- ---- the tests before the value
 
 -- past the tests of the state and of the times
-abbrev pub signalled : Encoder → (signal : ℕ) → Admission
-signalled s g = pick (leb (s .signals) g) (admission.Refused 4) admission.Taken
+abbrev pub signalled : Encoder → SignalRecord → (sender signal : ℕ) → Admission
+signalled s r p g = guarded (signalTests s r p g) admission.Refused admission.Taken
 
-abbrev pub heard : Encoder → (signal : ℕ) → Admission
-heard s g = pick (s .skips .on) admission.Skipped (signalled s g)
+abbrev pub heard : Encoder → SignalRecord → (sender signal : ℕ) → Admission
+heard s r p g = pick (skipOf (s .skips) p .on) admission.Skipped (signalled s r p g)
 
-module _ (s : Encoder) (records times work image g : ℕ) where
+module _ (s : Encoder) (r : SignalRecord) (p g : ℕ) where
+  pub signalled-refused : (first (signalTests s r p g) ≡ 0 → ⊥) → signalled s r p g ≡ admission.Refused (first (signalTests s r p g))
+  signalled-refused n = guarded-first (signalTests s r p g) admission.Refused admission.Taken n
+
+  pub signalled-taken : first (signalTests s r p g) ≡ 0 → signalled s r p g ≡ admission.Taken
+  signalled-taken z = guarded-none (signalTests s r p g) admission.Refused admission.Taken tt z
+
+module _ (s : Encoder) (r : SignalRecord) (records times work image p g : ℕ) where
   abbrev asked : Tests
-  asked = stateTests s records times work image
+  asked = stateTests s (noProbe p) records times work image
 
-  pub admitted-state : (first asked ≡ 0 → ⊥) → admissionOf s records times work image g ≡ admission.Refused (first asked)
+  pub admitted-state : (first asked ≡ 0 → ⊥) → admissionOf s r records times work image p g ≡ admission.Refused (first asked)
   unfolding admissionOf
   admitted-state n = guarded-first asked admission.Refused _ n
 
-  admitted-past : first asked ≡ 0 → admissionOf s records times work image g ≡ guarded (earlyTests s) admission.Refused (heard s g)
+  admitted-past : first asked ≡ 0 → admissionOf s r records times work image p g ≡ guarded (earlyTests s) admission.Refused (heard s r p g)
   unfolding admissionOf
-  admitted-past z = guarded-none asked admission.Refused _ (state-positive s records times work image) z
+  admitted-past z = guarded-none asked admission.Refused _ (state-positive s (noProbe p) records times work image) z
 
-  pub admitted-early : first asked ≡ 0 → s .held ≡ 0 → admissionOf s records times work image g ≡ admission.Refused 3
+  pub admitted-early : first asked ≡ 0 → s .held ≡ 0 → admissionOf s r records times work image p g ≡ admission.Refused 3
   admitted-early z h = admitted-past z ∙ rw (eq-eqb (s .held) 0 h) refl
 
-  pub admitted-timed : first asked ≡ 0 → (s .held ≡ 0 → ⊥) → admissionOf s records times work image g ≡ heard s g
+  pub admitted-timed : first asked ≡ 0 → (s .held ≡ 0 → ⊥) → admissionOf s r records times work image p g ≡ heard s r p g
   admitted-timed z h = admitted-past z ∙ rw (ne-eqb (s .held) 0 h) refl
 
 -- what holds where the value is looked at
@@ -64,14 +72,14 @@ pub record Ready (s : Encoder) (work : ℕ) : Type 0 where
   pub held : s .held ≤ 65535
   pub worked : s .work ≤ work
 
-pub taken-ready : (s : Encoder) (records times work image g : ℕ) → admissionOf s records times work image g ≡ admission.Taken → Ready s work
-taken-ready s records times work image g e = by (ℕ-discrete (first (stateTests s records times work image)) 0) (ℕ-discrete (s .held) 0)
+pub taken-ready : (s : Encoder) (r : SignalRecord) (records times work image p g : ℕ) → admissionOf s r records times work image p g ≡ admission.Taken → Ready s work
+taken-ready s r records times work image p g e = by (ℕ-discrete (first (stateTests s (noProbe p) records times work image)) 0) (ℕ-discrete (s .held) 0)
   where
-    by : Dec (first (stateTests s records times work image) ≡ 0) → Dec (s .held ≡ 0) → Ready s work
-    by (no n) d = let q = admitted-state s records times work image g n in let z : _≡_ {A = ℕ} 0 1 = cc in absurd (omega arith)
-    by (yes z) (yes h) = let q = admitted-early s records times work image g z h in let z : _≡_ {A = ℕ} 0 1 = cc in absurd (omega arith)
+    by : Dec (first (stateTests s (noProbe p) records times work image) ≡ 0) → Dec (s .held ≡ 0) → Ready s work
+    by (no n) d = let q = admitted-state s r records times work image p g n in let z : _≡_ {A = ℕ} 0 1 = cc in absurd (omega arith)
+    by (yes z) (yes h) = let q = admitted-early s r records times work image p g z h in let z : _≡_ {A = ℕ} 0 1 = cc in absurd (omega arith)
     by (yes z) (no h) =
-        let a = sound s records times work image z in
+        let a = sound s (noProbe p) records times work image z in
         record { timed = omega arith; held = omega (arith, a .held, a .high); worked = a .worked }
 
 -- ---- the record

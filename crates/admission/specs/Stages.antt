@@ -2,7 +2,6 @@
 -- Assumes nothing.
 use Prim.Native.Nat.{ℕ, _+_, _-_, max}
 use mathlib.Core.List.{List, _++_}
-use lib.Dec.{leb}
 use lib.Seq.{sets}
 use Rattle.lists.specs.Choice.{pick}
 use Rattle.numbers.specs.LittleEndian.{le}
@@ -13,20 +12,20 @@ use Rattle.stream.specs.Answer.{changeLength}
 use Rattle.recording.specs.declared.Encoder.{Encoder}
 use Rattle.recording.specs.declared.SignalRecord.{SignalRecord}
 use Rattle.recording.specs.Memory.{recordOf, guarded}
-use Rattle.recording.specs.Refusals.{stateTests, earlyTests, roomTests}
-use Rattle.recording.specs.State.{withWork}
+use Rattle.recording.specs.Refusals.{noProbe, stateTests, earlyTests, signalTests, roomTests}
+use Rattle.recording.specs.State.{skipOf, withWork}
 use Rattle.admission.specs.declared.Admission.{Admission}
 use Rattle.admission.specs.declared.Admission.the-variants as admission
 use Rattle.admission.specs.declared.item.ItemStart.{ItemStart}
 use Rattle.admission.specs.declared.item.ItemStart.the-variants as start
 
--- the tests before the value; that a signal is absent is told by its value's decoding
-unfoldable pub admissionOf : Encoder → (records times work image : ℕ) → (signal : ℕ) → Admission
-admissionOf s records times work image g =
-    guarded (stateTests s records times work image) admission.Refused
+-- the tests before the value
+unfoldable pub admissionOf : Encoder → SignalRecord → (records times work image : ℕ) → (sender signal : ℕ) → Admission
+admissionOf s r records times work image p g =
+    guarded (stateTests s (noProbe p) records times work image) admission.Refused
     (guarded (earlyTests s) admission.Refused
-    (pick (s .skips .on) admission.Skipped
-    (pick (leb (s .signals) g) (admission.Refused 4) admission.Taken)))
+    (pick (skipOf (s .skips) p .on) admission.Skipped
+    (guarded (signalTests s r p g) admission.Refused admission.Taken)))
 
 -- the tests after the value's decoding, by the length of the work buffer
 unfoldable pub itemStartOf : Encoder → SignalRecord → (work : ℕ) → ChangeValue → ItemStart
@@ -45,4 +44,4 @@ working s n = withWork s (s .work + n)
 
 -- its signal's record, risen to class c if that is above its own
 abbrev pub risen : Encoder → SignalRecord → (c : ℕ) → SignalRecord
-risen s r c = recordOf (r .kind) (s .held - 1) (statesOf (max (classNumber (r .top)) c))
+risen s r c = recordOf (r .kind) (s .held - 1) (statesOf (max (classNumber (r .top)) c)) (r .probe)

@@ -20,20 +20,22 @@ pub struct Changed {
 pub fn refused(n: u32, state: Encoder, kept: SignalRecord) -> Changed
     ensures { λ r. ⌜ (r .answer ≡ Answer.Refused n) × (r .state ≡ state) × (r .kept ≡ kept) ⌝ }
 {
+    let answer = Answer::Refused(n);
     Changed {
-        answer: Answer::Refused(n),
+        answer,
         state,
         kept,
     }
 }
 
-// A change in a skip is counted, up to the top of the count.
-pub fn skipped(state: Encoder, kept: SignalRecord) -> Changed
-    ensures { λ r. ⌜ (r .answer ≡ Answer.Skipped) × (r .state ≡ skippedOne state) × (r .kept ≡ kept) ⌝ }
+// A change in a skip of its sender is counted, up to the top of the count.
+pub fn skipped(state: Encoder, kept: SignalRecord, sender: u32) -> Changed
+    ensures { λ r. ⌜ (r .answer ≡ Answer.Skipped) × (r .state ≡ skippedOne state sender) × (r .kept ≡ kept) ⌝ }
 {
     let skips = state.skips;
+    let skip = skips.of(sender).counted();
     let mut after = state;
-    after.skips = skips.counted();
+    after.skips = skips.with(sender, skip);
     Changed {
         answer: Answer::Skipped,
         state: after,
@@ -41,7 +43,7 @@ pub fn skipped(state: Encoder, kept: SignalRecord) -> Changed
     }
 }
 
-// The work buffer has n more bytes; the record has the last time's index, and its top class is at least the value's.
+// The work buffer has n more bytes; the record has the last time's index, and its top class is at least the value's. Its probe stays.
 pub fn recorded(state: Encoder, kept: SignalRecord, n: usize, states: States) -> Changed
     requires { ⌜ (state .work + n < 18446744073709551616) × (0 < state .held) ⌝ }
     ensures { λ r. ⌜ (r .answer ≡ Answer.Recorded) × (r .state ≡ working state n) × (r .kept ≡ risen state kept (classNumber states)) ⌝ }
@@ -55,6 +57,11 @@ pub fn recorded(state: Encoder, kept: SignalRecord, n: usize, states: States) ->
     Changed {
         answer: Answer::Recorded,
         state: after,
-        kept: SignalRecord { kind, index, top },
+        kept: SignalRecord {
+            kind,
+            index,
+            top,
+            probe: kept.probe,
+        },
     }
 }

@@ -109,21 +109,21 @@ pub begins-here : (d o g : ℕ) (rs : List SignalRecord) (t : List ℕ) → g < 
     → (d + nextPart o g t ≤ length t) × (nextPart o g t < 4294967296)
 unfolding Begins
 begins-here d o g rs t h b =
-    let b' = rw (drop-cons rs g (recordOf Absent 0 Two) h) at b in
+    let b' = rw (drop-cons rs g (recordOf Absent 0 Two 0) h) at b in
     (b' .0, b' .1)
 
 module _ (d o g : ℕ) (rs : List SignalRecord) (t : List ℕ) (h : g < length rs) where
   abbrev top : ℕ
-  top = classNumber (getD rs g (recordOf Absent 0 Two) .top)
+  top = classNumber (getD rs g (recordOf Absent 0 Two 0) .top)
 
   pub begin-turn : begin d (nextPart o g t) (suc g) (topsOf (drop (suc g) rs)) (begun d o g top t) ≡ begin d o g (topsOf (drop g rs)) t
   unfolding begin
-  begin-turn = rw (drop-cons rs g (recordOf Absent 0 Two) h) refl
+  begin-turn = rw (drop-cons rs g (recordOf Absent 0 Two 0) h) refl
 
   pub begins-turn : Begins d o g (topsOf (drop g rs)) t → Begins d (nextPart o g t) (suc g) (topsOf (drop (suc g) rs)) (begun d o g top t)
   unfolding Begins
   begins-turn b =
-      let b' = rw (drop-cons rs g (recordOf Absent 0 Two) h) at b in
+      let b' = rw (drop-cons rs g (recordOf Absent 0 Two 0) h) at b in
       b' .2
 
 -- ---- scatter

@@ -17,27 +17,29 @@ use Rattle.stream.specs.Stream.{changeBytes}
 use Rattle.image.specs.Block.{les, dataOf, offsetsFrom, blockBytes}
 use Rattle.image.specs.Head.{headBytes}
 use Rattle.recording.specs.Calls.{time, change, finish, wayOf}
-use Rattle.recording.specs.State.{skipBegun, skipEnded, skipSame, skipCounted}
+use Rattle.recording.specs.State.{skipOf, withSkip, skipBegun, skipEnded, skipSame, skipCounted}
 use Rattle.recording.specs.Work.{itemsOf, gather}
-use Rattle.recording.specs.Refusals.{unknownKind, startTests, stateTests}
+use Rattle.recording.specs.Refusals.{anyBad, startTests, stateTests}
 use Rattle.recording.specs.Step.{partsFrom, cutOf, timeOf, changeOf, finishOf, startOf, step, run}
 use Rattle.loaded.specs.EntryBytes.{entryBytes}
-use Rattle.recording.specs.Runs.{lent, ranIn, ran, imageLeft}
+use Rattle.recording.specs.Runs.{lentWith, lent, ranWith, ranIn, ran, imageLeft}
 use Rattle.cases.specs.Starred.{holds, allHold, starred}
 
 pub starred-hold : allHold starred ≡ true
 unfolding groups lebOf le unle symbolOf classOfAll symbolsIn lastOr vcdBit textOf extended textSymbols numberOf digits packed decode changeBytes les dataOf offsetsFrom blockBytes
-    headBytes wayOf skipBegun skipEnded skipSame skipCounted itemsOf gather unknownKind startTests stateTests partsFrom cutOf timeOf changeOf finishOf startOf step run lent ranIn ran imageLeft
+    headBytes wayOf skipOf withSkip skipBegun skipEnded skipSame skipCounted itemsOf gather anyBad startTests stateTests partsFrom cutOf timeOf changeOf finishOf startOf step run
+    lentWith lent ranWith ranIn ran imageLeft
     same entryBytes holds allHold starred
 starred-hold = refl
 
 -- the image of widths 1 and 4, B 4: time 10, "1", "b1x"; time 20, second "b0001"; finish
 pub image-left : imageLeft 4 (BitVector 1 ∷ BitVector 4 ∷ [])
-    (time 10 ∷ change 0 (vcd (49 ∷ [])) ∷ change 1 (vcd (98 ∷ 49 ∷ 120 ∷ [])) ∷ time 20 ∷ change 1 (vcd (98 ∷ 48 ∷ 48 ∷ 48 ∷ 49 ∷ [])) ∷ finish ∷ [])
+    (time 0 10 ∷ change 0 0 (vcd (49 ∷ [])) ∷ change 0 1 (vcd (98 ∷ 49 ∷ 120 ∷ [])) ∷ time 0 20 ∷ change 0 1 (vcd (98 ∷ 48 ∷ 48 ∷ 48 ∷ 49 ∷ [])) ∷ finish ∷ [])
     ≡ 2 ∷ 0 ∷ 0 ∷ 0 ∷ 4 ∷ 0 ∷ 0 ∷ 0 ∷ 1 ∷ 0 ∷ 0 ∷ 0 ∷ 0x43 ∷ 0 ∷ 0 ∷ 0 ∷ 1 ∷ 0 ∷ 0 ∷ 0 ∷ 4 ∷ 0 ∷ 0 ∷ 0
     ∷ 0x2b ∷ 0 ∷ 0 ∷ 0 ∷ 2 ∷ 0 ∷ 0 ∷ 0 ∷ 2 ∷ 0 ∷ 0 ∷ 0 ∷ 1 ∷ 0 ∷ 0 ∷ 0 ∷ 3 ∷ 0 ∷ 0 ∷ 0
     ∷ 0x0a ∷ 0 ∷ 0 ∷ 0 ∷ 0 ∷ 0 ∷ 0 ∷ 0 ∷ 0x14 ∷ 0 ∷ 0 ∷ 0 ∷ 0 ∷ 0 ∷ 0 ∷ 0
     ∷ 0x00 ∷ 0x01 ∷ 0x01 ∷ 0x01 ∷ 0x06 ∷ 0x04 ∷ 0x01 ∷ []
 unfolding groups lebOf le unle symbolOf classOfAll symbolsIn lastOr vcdBit textOf extended textSymbols numberOf digits packed decode changeBytes les dataOf offsetsFrom blockBytes
-    headBytes wayOf skipBegun skipEnded skipSame skipCounted itemsOf gather unknownKind startTests stateTests partsFrom cutOf timeOf changeOf finishOf startOf step run lent ranIn ran imageLeft
+    headBytes wayOf skipOf withSkip skipBegun skipEnded skipSame skipCounted itemsOf gather anyBad startTests stateTests partsFrom cutOf timeOf changeOf finishOf startOf step run
+    lentWith lent ranWith ranIn ran imageLeft
 image-left = refl

@@ -69,6 +69,6 @@ starred =
     -- width 1, d 8, symbol 1 → 81 01
     ∷ writes 1 8 (1 ∷ []) (0x81 ∷ 0x01 ∷ [])
     -- B 2, times 1 2 3: tables 1 2 and 2 3
-    ∷ leaves 2 [] (time 1 ∷ time 2 ∷ time 3 ∷ finish ∷ [])
+    ∷ leaves 2 [] (time 0 1 ∷ time 0 2 ∷ time 0 3 ∷ finish ∷ [])
     (les 4 (0 ∷ 2 ∷ 2 ∷ 72 ∷ []) ++ (les 4 (28 ∷ 2 ∷ 0 ∷ []) ++ (les 8 (1 ∷ 2 ∷ []) ++ (les 4 (28 ∷ 2 ∷ 0 ∷ []) ++ les 8 (2 ∷ 3 ∷ [])))))
     ∷ []

@@ -7,7 +7,8 @@ use lib.Seq.{set-getD}
 use Rattle.signal.specs.Content.{Given, Decoded, refuse, accept, decode}
 use Rattle.stream.specs.Stream.{changeBytes}
 use Rattle.recording.specs.Memory.{Memory, After, recordAt, Tests, guarded, refused}
-use Rattle.recording.specs.Refusals.{openTests, earlyTests, signalTests, roomTests}
+use Rattle.recording.specs.Refusals.{noProbe, openTests, earlyTests, signalTests, roomTests}
+use Rattle.recording.specs.State.{skipOf}
 use Rattle.recording.specs.Step.{changeBy, changeOf}
 use Rattle.change.specs.Found.{Found, foundRefused, foundDone, foundBy, foundOf, afterChange}
 use Rattle.recording.proofs.TestsLaws.{guarded-by}
@@ -31,12 +32,12 @@ module _ (m : Memory) (g : ℕ) where
       let b = changeBytes (r .kind) (m .state .held - 1 - r .index) a in
       guarded-whole (roomTests (m .state) r (length (m .work)) (length b)) (foundDone (m .state) r (m .work) g b c) refl
 
-  pub change-found : (v : Given)
-      → changeOf m g v ≡ afterChange m g (foundOf (m .state) (recordAt m g) (length (m .records)) (length (m .times)) (length (m .image)) (m .work) g v)
+  pub change-found : (p : ℕ) (v : Given)
+      → changeOf m p g v ≡ afterChange m g (foundOf (m .state) (recordAt m g) (length (m .records)) (length (m .times)) (length (m .image)) (m .work) p g v)
   unfolding changeOf foundOf
-  change-found v =
+  change-found p v =
       sym
-      (guarded-whole (openTests m) _
+      (guarded-whole (openTests m (noProbe p)) _
       (guarded-whole (earlyTests (m .state)) _
-      (pick-by (afterChange m g) (m .state .skips .on) _ _ (rw (set-getD (m .records) g _) refl)
-      (guarded-whole (signalTests (m .state) (recordAt m g) g) _ (by-whole (decode (recordAt m g .kind) v))))))
+      (pick-by (afterChange m g) (skipOf (m .state .skips) p .on) _ _ (rw (set-getD (m .records) g _) refl)
+      (guarded-whole (signalTests (m .state) (recordAt m g) p g) _ (by-whole (decode (recordAt m g .kind) v))))))

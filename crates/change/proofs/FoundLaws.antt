@@ -2,24 +2,20 @@
 -- Assumes nothing.
 use Prim.Native.Nat.{ℕ, zero, suc, _+_, _-_, _≤_, _<_, max}
 use mathlib.Core.Path.{_≡_, refl, sym, ap, _∙_}
-use mathlib.Core.Bool.{Bool, true, false, _||_}
+use mathlib.Core.Bool.{Bool, true, false}
 use mathlib.Core.List.{List, [], _∷_}
 use native.Mathlib.Omega.{arith}
 use borrow.Author.Tests.{ltb-false}
 use lib.ListN.{length}
 use lib.Seq.{sets}
-use lib.Dec.{leb}
-use Rattle.lists.specs.Choice.{pick}
 use Rattle.lists.proofs.ChoiceLaws.{none-holds, pick-by}
 use Rattle.value.specs.Class.{classNumber, statesOf}
 use Rattle.value.specs.declared.states.States.{States}
 use Rattle.value.specs.declared.states.States.the-variants.{Nine}
-use Rattle.signal.specs.declared.kind.SignalEncoding.{SignalEncoding}
-use Rattle.signal.specs.declared.kind.SignalEncoding.the-variants.{BitVector, Real, Absent}
 use Rattle.signal.specs.declared.decode.ChangeValue.{ChangeValue}
 use Rattle.signal.specs.declared.decode.DecodedChange.the-variants.{Change, Refused}
-use Rattle.signal.specs.Kind.{widthOf, absent}
-use Rattle.signal.specs.Content.{Given, vcd, raw, real, Decoded, refuse, accept, contentOf, decode}
+use Rattle.signal.specs.Kind.{widthOf}
+use Rattle.signal.specs.Content.{Given, Decoded, refuse, accept, contentOf, decode}
 use Rattle.signal.specs.Answer.{decodedAs}
 use Rattle.stream.specs.Stream.{changeBytes}
 use Rattle.stream.specs.Answer.{changeLength, saidBytes}
@@ -28,7 +24,8 @@ use Rattle.recording.specs.declared.SignalRecord.{SignalRecord}
 use Rattle.recording.specs.declared.Answer.{Answer}
 use Rattle.recording.specs.Calls.{replyOf, say, recorded, skipped}
 use Rattle.recording.specs.Memory.{guarded}
-use Rattle.recording.specs.Refusals.{stateTests, earlyTests, roomTests}
+use Rattle.recording.specs.Refusals.{noProbe, stateTests, earlyTests, signalTests, roomTests}
+use Rattle.recording.specs.State.{skipOf}
 use Rattle.recording.specs.Step.{skippedOne}
 use Rattle.recording.proofs.TestsLaws.{guarded-by}
 use Rattle.admission.specs.declared.Admission.{Admission}
@@ -42,39 +39,23 @@ use Rattle.change.proofs.NotationLaws.{item-written, given-length}
 
 -- ---- the tests before the value
 
-module _ (s : Encoder) (r : SignalRecord) (w : List ℕ) (g : ℕ) (v : Given) where
+module _ (s : Encoder) (r : SignalRecord) (w : List ℕ) (p g : ℕ) (v : Given) where
   abbrev pub byAdmission : Admission → Found
   byAdmission (admission.Refused n) = foundRefused s r w n
-  byAdmission admission.Skipped = found (say skipped) (skippedOne s) r w
+  byAdmission admission.Skipped = found (say skipped) (skippedOne s p) r w
   byAdmission admission.Taken = foundBy s r w g (decode (r .kind) v)
 
-  -- an absent signal is told by its value's refusal, which is 4 too
-  absent-decoded : (k : SignalEncoding) → foundBy s r w g (decode k v) ≡ pick (absent k) (foundRefused s r w 4) (foundBy s r w g (decode k v))
-  unfolding foundBy decode
-  absent-decoded (BitVector x) = refl
-  absent-decoded Real = refl
-  absent-decoded Absent = by v
-    where
-      by : (v : Given) → foundBy s r w g (decode Absent v) ≡ foundRefused s r w 4
-      by (vcd l) = refl
-      by (raw c l) = refl
-      by (real b) = refl
-
-  by-signal : (b : Bool) → byAdmission (pick b (admission.Refused 4) admission.Taken)
-      ≡ guarded ((b || absent (r .kind), 4) ∷ []) (foundRefused s r w) (foundBy s r w g (decode (r .kind) v))
-  by-signal true = refl
-  by-signal false = absent-decoded (r .kind)
-
-  found-admitted : (records times image : ℕ) → byAdmission (admissionOf s records times (length w) image g) ≡ foundOf s r records times image w g v
+  found-admitted : (records times image : ℕ) → byAdmission (admissionOf s r records times (length w) image p g) ≡ foundOf s r records times image w p g v
   unfolding admissionOf foundOf
   found-admitted records times image =
-      guarded-by byAdmission (stateTests s records times (length w) image) _ _ (λ n. refl)
-      (guarded-by byAdmission (earlyTests s) admission.Refused (heard s g) (λ n. refl)
-      (pick-by byAdmission (s .skips .on) admission.Skipped (signalled s g) refl (by-signal (leb (s .signals) g))))
+      guarded-by byAdmission (stateTests s (noProbe p) records times (length w) image) _ _ (λ n. refl)
+      (guarded-by byAdmission (earlyTests s) admission.Refused (heard s r p g) (λ n. refl)
+      (pick-by byAdmission (skipOf (s .skips) p .on) admission.Skipped (signalled s r p g) refl
+      (guarded-by byAdmission (signalTests s r p g) admission.Refused admission.Taken (λ n. refl) refl)))
 
   -- j is the answer that the code meets
-  pub found-after : (records times image : ℕ) {i j : Admission} → i ≡ admissionOf s records times (length w) image g → i ≡ j
-      → byAdmission j ≡ foundOf s r records times image w g v
+  pub found-after : (records times image : ℕ) {i j : Admission} → i ≡ admissionOf s r records times (length w) image p g → i ≡ j
+      → byAdmission j ≡ foundOf s r records times image w p g v
   found-after records times image e f = ap byAdmission (sym f ∙ e) ∙ found-admitted records times image
 
 -- ---- the value

@@ -14,7 +14,8 @@ use Rattle.recording.specs.Calls as calls
 use Rattle.recording.specs.Calls.{Reply, say, recorded, skipped}
 use Rattle.recording.specs.Work.{item, itemBytes}
 use Rattle.recording.specs.Memory.{Memory, memory, After, after, guarded}
-use Rattle.recording.specs.Refusals.{stateTests, earlyTests, signalTests, roomTests}
+use Rattle.recording.specs.Refusals.{noProbe, stateTests, earlyTests, signalTests, roomTests}
+use Rattle.recording.specs.State.{skipOf}
 use Rattle.recording.specs.Step.{skippedOne}
 use Rattle.admission.specs.Stages.{working, risen}
 
@@ -39,12 +40,12 @@ foundBy s r w g (accept a c) =
     let b = changeBytes (r .kind) (s .held - 1 - r .index) a in
     guarded (roomTests s r (length w) (length b)) (foundRefused s r w) (foundDone s r w g b c)
 
-unfoldable pub foundOf : Encoder → SignalRecord → (records times image : ℕ) → (work : List ℕ) → (signal : ℕ) → Given → Found
-foundOf s r records times image w g v =
-    guarded (stateTests s records times (length w) image) (foundRefused s r w)
+unfoldable pub foundOf : Encoder → SignalRecord → (records times image : ℕ) → (work : List ℕ) → (sender signal : ℕ) → Given → Found
+foundOf s r records times image w p g v =
+    guarded (stateTests s (noProbe p) records times (length w) image) (foundRefused s r w)
     (guarded (earlyTests s) (foundRefused s r w)
-    (pick (s .skips .on) (found (say skipped) (skippedOne s) r w)
-    (guarded (signalTests s r g) (foundRefused s r w)
+    (pick (skipOf (s .skips) p .on) (found (say skipped) (skippedOne s p) r w)
+    (guarded (signalTests s r p g) (foundRefused s r w)
     (foundBy s r w g (decode (r .kind) v)))))
 
 -- the memory after a change: of the records only the signal's differs

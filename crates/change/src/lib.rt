@@ -1,4 +1,5 @@
-// A change, as far as it concerns the state, its signal's record and the work buffer. Document 01, 'Recording' and 'Turned back'.
+// A change, as far as it concerns the state, its signal's record and the work buffer. Document 01, 'Recording' and 'Turned back';
+// document 02, (k).
 //
 // All is decided on one record by value, so that it does not matter how records are stored. The contracts cite specs/Found.antt, which
 // is `changeOf` of crate recording for one record; crate admission says what is answered on the way.
@@ -120,7 +121,8 @@ fn record_real(
     }
 }
 
-// A VCD value of a signal whose record is kept: 2, 10 (first group), 3, skip, 4, 5, 6, 10 (second group), 7, in this order.
+// A VCD value of a signal whose record is kept: 2, 18 of the sender, 10 (first group), 3, the sender's skip, 4, 18 of the record, 5, 6, 10
+// (second group), 7, in this order.
 pub fn vcd_change(
     state: Encoder,
     kept: SignalRecord,
@@ -129,14 +131,14 @@ pub fn vcd_change(
     value: &[u8],
     work: &mut [u8],
 ) -> Changed
-    ensures { λ r. ⌜ found (replyOf (r .answer)) (r .state) (r .kept) (now (work .exit)) ≡ foundOf state kept (lent .records) (lent .times) (lent .image) (now (work .entry)) (target .signal .0) (vcd (now (value .entry))) ⌝ }
+    ensures { λ r. ⌜ found (replyOf (r .answer)) (r .state) (r .kept) (now (work .exit)) ≡ foundOf state kept (lent .records) (lent .times) (lent .image) (now (work .entry)) (target .sender) (target .signal .0) (vcd (now (value .entry))) ⌝ }
 {
-    match admitted(state, lent, work.len(), target) {
+    match admitted(state, kept, lent, work.len(), target) {
         Admission::Refused(n) => {
             return refused(n, state, kept);
         }
         Admission::Skipped => {
-            return skipped(state, kept);
+            return skipped(state, kept, target.sender);
         }
         Admission::Taken => {}
     }
@@ -159,14 +161,14 @@ pub fn raw_change(
     value: &[u8],
     work: &mut [u8],
 ) -> Changed
-    ensures { λ r. ⌜ found (replyOf (r .answer)) (r .state) (r .kept) (now (work .exit)) ≡ foundOf state kept (lent .records) (lent .times) (lent .image) (now (work .entry)) (target .signal .0) (raw claim (now (value .entry))) ⌝ }
+    ensures { λ r. ⌜ found (replyOf (r .answer)) (r .state) (r .kept) (now (work .exit)) ≡ foundOf state kept (lent .records) (lent .times) (lent .image) (now (work .entry)) (target .sender) (target .signal .0) (raw claim (now (value .entry))) ⌝ }
 {
-    match admitted(state, lent, work.len(), target) {
+    match admitted(state, kept, lent, work.len(), target) {
         Admission::Refused(n) => {
             return refused(n, state, kept);
         }
         Admission::Skipped => {
-            return skipped(state, kept);
+            return skipped(state, kept, target.sender);
         }
         Admission::Taken => {}
     }
@@ -197,14 +199,14 @@ pub fn real_change(
     bits: u64,
     work: &mut [u8],
 ) -> Changed
-    ensures { λ r. ⌜ found (replyOf (r .answer)) (r .state) (r .kept) (now (work .exit)) ≡ foundOf state kept (lent .records) (lent .times) (lent .image) (now (work .entry)) (target .signal .0) (real bits) ⌝ }
+    ensures { λ r. ⌜ found (replyOf (r .answer)) (r .state) (r .kept) (now (work .exit)) ≡ foundOf state kept (lent .records) (lent .times) (lent .image) (now (work .entry)) (target .sender) (target .signal .0) (real bits) ⌝ }
 {
-    match admitted(state, lent, work.len(), target) {
+    match admitted(state, kept, lent, work.len(), target) {
         Admission::Refused(n) => {
             return refused(n, state, kept);
         }
         Admission::Skipped => {
-            return skipped(state, kept);
+            return skipped(state, kept, target.sender);
         }
         Admission::Taken => {}
     }
@@ -227,7 +229,7 @@ pub fn change_found(
     bytes: &[u8],
     work: &mut [u8],
 ) -> Changed
-    ensures { λ r. ⌜ found (replyOf (r .answer)) (r .state) (r .kept) (now (work .exit)) ≡ foundOf state kept (lent .records) (lent .times) (lent .image) (now (work .entry)) (target .signal .0) (givenOf value (now (bytes .entry))) ⌝ }
+    ensures { λ r. ⌜ found (replyOf (r .answer)) (r .state) (r .kept) (now (work .exit)) ≡ foundOf state kept (lent .records) (lent .times) (lent .image) (now (work .entry)) (target .sender) (target .signal .0) (givenOf value (now (bytes .entry))) ⌝ }
 {
     match value {
         Value::Vcd => vcd_change(state, kept, lent, target, bytes, work),

@@ -101,7 +101,7 @@ unfolding cutTurns
 turns-none u d rs i = refl
 
 pub turns-next : (u d n : ℕ) (rs : List SignalRecord) (i : List ℕ)
-    → cutTurns u d (n + 1) rs i ≡ turned u d n (getD rs n (recordOf Absent 0 Two)) (cutTurns u d n rs i)
+    → cutTurns u d (n + 1) rs i ≡ turned u d n (getD rs n (recordOf Absent 0 Two 0)) (cutTurns u d n rs i)
 unfolding cutTurns
 turns-next u d n rs i = rw (add-one n) refl
 
@@ -110,7 +110,7 @@ module _ (u d : ℕ) (rs : List SignalRecord) (i : List ℕ) (h : u ≤ length i
   at n = cutTurns u d n rs i
 
   abbrev top : ℕ → ℕ
-  top n = classNumber (getD rs n (recordOf Absent 0 Two) .top)
+  top n = classNumber (getD rs n (recordOf Absent 0 Two 0) .top)
 
   abbrev tail : ℕ → List ℕ
   tail n = drop u (at n .image)

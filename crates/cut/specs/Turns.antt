@@ -34,7 +34,7 @@ turned u d g r p =
 -- n turns
 unfoldable pub cutTurns : (used d n : ℕ) → List SignalRecord → List ℕ → Place
 cutTurns u d zero rs i = placed 0 i
-cutTurns u d (suc n) rs i = turned u d n (getD rs n (recordOf Absent 0 Two)) (cutTurns u d n rs i)
+cutTurns u d (suc n) rs i = turned u d n (getD rs n (recordOf Absent 0 Two 0)) (cutTurns u d n rs i)
 
 -- what keeps a turn inside the image and its numbers inside 32 bits
 pub record TurnFits (used d o g : ℕ) (image : List ℕ) : Type 0 where

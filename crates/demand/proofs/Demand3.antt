@@ -5,7 +5,7 @@ use mathlib.Core.List.{List}
 use Rattle.signal.specs.declared.kind.SignalEncoding.{SignalEncoding}
 use Rattle.history.specs.History.{History}
 use Rattle.demand.specs.Demand3.{Tells, left, join, Demand3}
-use Rattle.demand.proofs.LoadsLaws.{Told, told-loads, recorded-told, recorded-answers, recorded-count}
+use Rattle.demand.proofs.LoadsLaws.{Told, told-loads, recorded-told, recorded-answers, recorded-counts}
 use Rattle.demand.proofs.JoinLaws.{told-join}
 use Rattle.demand.proofs.TellsLaws.{accepted-tells}
 
@@ -17,6 +17,6 @@ pub demand : Demand3
 demand = record {
   loads = λ ks h b t. told-loads ks h b (tells-told ks h b t);
   answers = recorded-answers;
-  count = recorded-count;
+  counts = recorded-counts;
   accepted = accepted-tells;
 }

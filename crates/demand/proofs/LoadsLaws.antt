@@ -1,4 +1,4 @@
--- Bytes that tell a history load as it, and what an accepted finish leaves tells the list's; the answers and the skipped count are that
+-- Bytes that tell a history load as it, and what an accepted finish leaves tells the list's; the answers and the skipped counts are that
 -- history's too.
 -- Assumes nothing.
 use Prim.Native.Nat.{ℕ, suc, _≤_, _<_}
@@ -22,7 +22,7 @@ use Rattle.codec.specs.Valid.{Rising, Valid}
 use Rattle.codec.specs.Parse.{parse}
 use Rattle.codec.proofs.Trip.{parse-of}
 use Rattle.recording.specs.declared.Settings.{Settings}
-use Rattle.recording.specs.declared.ProbeSkip.{ProbeSkip}
+use Rattle.recording.specs.declared.Skips.{Skips}
 use Rattle.recording.specs.Calls.{Call, finish, heard}
 use Rattle.recording.specs.Memory.{Memory, After, refused}
 use Rattle.recording.specs.Refusals.{openTests}
@@ -149,18 +149,18 @@ module _ (ks : List SignalEncoding) (h : History) (b : List ℕ) (f : Told ks h 
   }
 
 -- finished blocks that join to a history tell it
-pub finished-told : (limit : ℕ) (ks : List SignalEncoding) (h : History) (b : List ℕ) → Finished limit ks h b → Told ks h b
+pub finished-told : (limit : ℕ) (ks : List SignalEncoding) (bs : List Chunk) (h : History) (b : List ℕ) → Finished limit ks bs h b → Told ks h b
 unfolding listOf topOf
-finished-told limit ks h b f = record {
+finished-told limit ks bs h b f = record {
   limit = limit;
-  blocks = imageFor limit ks (f .model .blocks) .blocks;
+  blocks = imageFor limit ks bs .blocks;
   valid = f .valid;
   bytes = f .bytes-are;
-  table = table-image (length ks) (f .model .blocks) ∙ ap (λ (c : Chunk). c .times) (f .held);
-  all = λ g l. all-from (length ks) g (f .model .blocks) noChunk [] l refl ∙ ap (view g) (f .held);
+  table = table-image (length ks) bs ∙ ap (λ (c : Chunk). c .times) (f .held);
+  all = λ g l. all-from (length ks) g bs noChunk [] l refl ∙ ap (view g) (f .held);
 }
 
--- ---- a finish leaves the skip and its count
+-- ---- a finish leaves the skips and their counts
 
 module _ (m : Memory) where
   abbrev Keeps : After → Type 0
@@ -170,10 +170,10 @@ module _ (m : Memory) where
   kept-cut (noCut n) = refl
   kept-cut (cuts b) = refl
 
-  finish-skips : Keeps (finishOf m)
-  unfolding finishOf
+  pub finish-skips : Keeps (step m finish)
+  unfolding step finishOf
   finish-skips =
-      guarded-either Keeps (openTests m) (refused m) (pick (eqb (m .state .held) 0) (closing m) (finishCut m (cutOf m))) (λ n. refl)
+      guarded-either Keeps (openTests m false) (refused m) (pick (eqb (m .state .held) 0) (closing m) (finishCut m (cutOf m))) (λ n. refl)
       (pick-either Keeps (eqb (m .state .held) 0) (closing m) (finishCut m (cutOf m)) refl (kept-cut (cutOf m)))
 
 -- ---- a recording
@@ -188,17 +188,19 @@ module _ (settings : Settings) (m : Memory) (calls : List Call) (size : ℕ) (r 
   recorded-told =
       let e = follows in
       let k = known-kinds (m .records) (start-taken settings m (r .start) .known) in
-      finished-told (settings .limit) (kindsOf (m .records)) (historyOf settings m calls .last) (leftBy settings m calls size)
+      finished-told (settings .limit) (kindsOf (m .records)) _ (historyOf settings m calls .last) (leftBy settings m calls size)
       (finish-leaves settings (kindsOf (m .records)) (ranFrom settings m calls .last) (e .model) (historyOf settings m calls .last) size k (e .stands) (r .end))
 
   pub recorded-answers : heard (ranFrom settings m calls .replies) ≡ historyOf settings m calls .answers
   recorded-answers = follows .answers
 
-  pub recorded-count : step (ranFrom settings m calls .last) finish .memory .state .skips .count ≡ historyOf settings m calls .last .skips .count
-  unfolding step
-  recorded-count =
-      let e = follows in
-      ap (λ (k : ProbeSkip). k .count) (finish-skips (ranFrom settings m calls .last) ∙ e .stands .rep .skips ∙ e .stands .same .skips)
+  pub recorded-skips : step (ranFrom settings m calls .last) finish .memory .state .skips ≡ historyOf settings m calls .last .skips
+  recorded-skips = let e = follows in finish-skips (ranFrom settings m calls .last) ∙ e .stands .rep .skips ∙ e .stands .same .skips
+
+  pub recorded-counts : let s = step (ranFrom settings m calls .last) finish .memory .state .skips in
+      let k = historyOf settings m calls .last .skips in
+      (s .zero .count ≡ k .zero .count) × (s .one .count ≡ k .one .count)
+  recorded-counts = (ap (λ (k : Skips). k .zero .count) recorded-skips, ap (λ (k : Skips). k .one .count) recorded-skips)
 
   -- nobody altered memory between the calls, so none is refused by 10
   pub recorded-never-ten : NeverTen (ranFrom settings m calls .replies)

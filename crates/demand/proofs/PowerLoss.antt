@@ -93,9 +93,9 @@ module _ (settings : Settings) (ks : List SignalEncoding) (m₀ : Memory) where
       go true e = g .shut e
       go false e = g .well e .done
 
-  used-finished : (cs held : List Call) → KnownKinds ks → Ended cs held m₀ → Finished (settings .limit) ks (since held) (take (run m₀ cs .last .state .image) (run m₀ cs .last .image))
+  used-finished : (cs held : List Call) → KnownKinds ks → (e : Ended cs held m₀)
+      → Finished (settings .limit) ks (e .model .blocks) (since held) (take (run m₀ cs .last .state .image) (run m₀ cs .last .image))
   used-finished cs held n e = record {
-    model = e .model;
     held = e .joins;
     valid = image-valid settings ks (run m₀ cs .last) (e .model) n (good-fit (e .model) (e .good)) (e .rep);
     bytes-are = sym (e .rep .image .is);
@@ -113,7 +113,7 @@ module _ (settings : Settings) (m : Memory) (calls : List Call) (fit : Fitting c
       let s : Memory = startOf settings m .memory in
       let held : List Call = callsIn s [] [] calls in
       told-loads ks (historyOf settings m held .last) (take (ranFrom settings m calls .last .state .image) (ranFrom settings m calls .last .image))
-      (finished-told (settings .limit) ks (historyOf settings m held .last) (take (ranFrom settings m calls .last .state .image) (ranFrom settings m calls .last .image))
+      (finished-told (settings .limit) ks _ (historyOf settings m held .last) (take (ranFrom settings m calls .last .state .image) (ranFrom settings m calls .last .image))
       (used-finished settings ks s calls held (known-kinds (m .records) (start-taken settings m start .known)) (run-held settings ks s calls s noModel noHistory [] [] fit begun)))
 
 pub power-loss : PowerLoss

@@ -30,8 +30,8 @@ use Rattle.recording.specs.Calls.{Call, Slice, CallFits, Fitting, time, change,
 use Rattle.recording.specs.Calls as calls
 use Rattle.recording.specs.Work.{itemsOf, gather}
 use Rattle.recording.specs.Memory.{Memory, memory, recordOf}
-use Rattle.recording.specs.Refusals.{unknownKind, startTests, stateTests}
-use Rattle.recording.specs.State.{skipBegun, skipEnded, skipSame, skipCounted, settingsOf}
+use Rattle.recording.specs.Refusals.{anyBad, startTests, stateTests}
+use Rattle.recording.specs.State.{skipBegun, skipEnded, skipSame, skipCounted, skipOf, withSkip, settingsOf}
 use Rattle.recording.specs.Step.{partsFrom, cutOf, timeOf, changeOf, finishOf, startOf, step, run, kindsOf}
 use Rattle.recording.specs.Runs.{staleState, sames}
 use Rattle.history.specs.History.{Telling, noHistory, tell, tellAll, listOf, keptAfter, kept, keptOf, topOf, classOf}
@@ -45,35 +45,35 @@ use Rattle.loaded.specs.Loading.{tableFrom, moved, repeatsLast, pushed, loadFro
 use Rattle.loaded.specs.EntryBytes.{entryBytes, entriesBytes}
 use Rattle.loaded.specs.Reader.{loadOf, loadAfter, loaded, loadIn, tableOf, tableAfter, counted, tableIn}
 use Rattle.loaded.specs.Reader as reader
-use Rattle.demand.specs.Demand3.{RecordsFit, Lent, Recorded, ranFrom, leftBy, historyOf}
+use Rattle.demand.specs.Demand3.{StateFits, RecordsFit, Lent, Recorded, ranFrom, leftBy, historyOf}
 
 -- a vector of width 2, an event, a real, an absent signal; B 2
 abbrev mixed : Memory
 mixed =
     memory staleState
-    (recordOf (BitVector 2) 9 Nine ∷ recordOf (BitVector 0) 7 Two ∷ recordOf Real 5 Nine ∷ recordOf Absent 0 Two ∷ [])
+    (recordOf (BitVector 2) 9 Nine 0 ∷ recordOf (BitVector 0) 7 Two 0 ∷ recordOf Real 5 Nine 0 ∷ recordOf Absent 0 Two 0 ∷ [])
     (replicate 2 99) (replicate 64 99) (replicate 200 99)
 
 abbrev mixedCalls : List Call
 mixedCalls =
-    change 0 (vcd (49 ∷ []))  -- "1" before any time: 3
-    ∷ time 1
-    ∷ change 0 (vcd (49 ∷ 120 ∷ []))  -- "1x"
-    ∷ change 1 (vcd [])
-    ∷ time 2
-    ∷ change 2 (real 0x8000000000000000)  -- -0.0
-    ∷ change 2 (real 0)
-    ∷ time 1  -- back
-    ∷ change 0 (vcd (113 ∷ []))  -- "q", skipped
-    ∷ time 2  -- same: the skip stands in edition 1, and ends in edition 2
-    ∷ change 9 (vcd [])  -- skipped; in edition 2 refused with 4
-    ∷ time 3  -- cuts
-    ∷ change 0 (vcd (49 ∷ 120 ∷ []))  -- "1x" again
-    ∷ change 0 (raw 2 (0x12 ∷ []))  -- and again, raw, claiming Nine
-    ∷ change 0 (vcd (113 ∷ []))  -- 6
-    ∷ change 3 (vcd [])  -- 4
-    ∷ change 1 (vcd [])
-    ∷ change 0 (vcd (48 ∷ 49 ∷ []))  -- "01"
+    change 0 0 (vcd (49 ∷ []))  -- "1" before any time: 3
+    ∷ time 0 1
+    ∷ change 0 0 (vcd (49 ∷ 120 ∷ []))  -- "1x"
+    ∷ change 0 1 (vcd [])
+    ∷ time 0 2
+    ∷ change 0 2 (real 0x8000000000000000)  -- -0.0
+    ∷ change 0 2 (real 0)
+    ∷ time 0 1  -- back
+    ∷ change 0 0 (vcd (113 ∷ []))  -- "q", skipped
+    ∷ time 0 2  -- same: the skip stands in edition 1, and ends in edition 2
+    ∷ change 0 9 (vcd [])  -- skipped; in edition 2 refused with 4
+    ∷ time 0 3  -- cuts
+    ∷ change 0 0 (vcd (49 ∷ 120 ∷ []))  -- "1x" again
+    ∷ change 0 0 (raw 2 (0x12 ∷ []))  -- and again, raw, claiming Nine
+    ∷ change 0 0 (vcd (113 ∷ []))  -- 6
+    ∷ change 0 3 (vcd [])  -- 4
+    ∷ change 0 1 (vcd [])
+    ∷ change 0 0 (vcd (48 ∷ 49 ∷ []))  -- "01"
     ∷ []
 
 -- two blocks, of times 1 2 and 2 3; the event's streams are 00 and 01
@@ -87,24 +87,37 @@ mixedImage =
 
 pub mixed-left : leftBy (settingsOf 2 4 1) mixed mixedCalls 153 ≡ mixedImage
 unfolding groups lebOf le unle symbolOf classOfAll allSymbols symbolsIn lastOr vcdBit textOf extended textSymbols numberOf digits packed unpacked rawSymbols decode changeBytes les
-    dataOf offsetsFrom blockBytes headBytes wayOf skipBegun skipEnded skipSame skipCounted itemsOf gather unknownKind startTests stateTests partsFrom cutOf timeOf changeOf finishOf startOf
+    dataOf offsetsFrom blockBytes headBytes wayOf skipOf withSkip skipBegun skipEnded skipSame skipCounted itemsOf gather anyBad startTests stateTests partsFrom cutOf timeOf changeOf finishOf startOf
     step run
 mixed-left = refl
 
 -- the list meets demand 3's premises
-nines-at : (n i : ℕ) → getD (replicate n 99) i 0 < 256
+pub nines-at : (n i : ℕ) → getD (replicate n 99) i 0 < 256
 nines-at zero i = omega arith
 nines-at (suc n) zero = omega arith
 nines-at (suc n) (suc i) = nines-at n i
 
-nines-slice : (n : ℕ) → n < 2 ^ 63 → Slice (replicate n 99)
+pub nines-slice : (n : ℕ) → n < 2 ^ 63 → Slice (replicate n 99)
 nines-slice n h = (nines-at n, rw (length-replicate {A = ℕ} n 99) h)
+
+pub stale-fits : StateFits staleState
+stale-fits = record {
+  limit = omega arith;
+  signals = omega arith;
+  held = omega arith;
+  work = omega arith;
+  image = omega arith;
+  blocks = omega arith;
+  edition = omega arith;
+  zero = omega arith;
+  one = omega arith;
+}
 
 mixed-lent : Lent mixed
 unfolding RecordsFit
 mixed-lent = record {
-  state = record { limit = omega arith; signals = omega arith; held = omega arith; work = omega arith; image = omega arith; blocks = omega arith; edition = omega arith; skipped = omega arith };
-  records = ((omega arith, omega arith), ((omega arith, omega arith), ((omega arith, omega arith), ((omega arith, omega arith), tt))));
+  state = stale-fits;
+  records = ((omega arith, omega arith, omega arith), ((omega arith, omega arith, omega arith), ((omega arith, omega arith, omega arith), ((omega arith, omega arith, omega arith), tt))));
   work = nines-slice 64 (omega arith);
   image = nines-slice 200 (omega arith);
   times = λ i. let h = nines-at 2 i in omega arith;
@@ -114,7 +127,7 @@ mixed-lent = record {
 empty : Slice []
 empty = (no-bytes, omega arith)
 
-one : (x : ℕ) → x < 256 → Slice (x ∷ [])
+pub one : (x : ℕ) → x < 256 → Slice (x ∷ [])
 one x h = (cons-bytes x [] h no-bytes, omega arith)
 
 two : (x y : ℕ) → x < 256 → y < 256 → Slice (x ∷ y ∷ [])
@@ -123,34 +136,37 @@ two x y h k = (cons-bytes x (y ∷ []) h (cons-bytes y [] k no-bytes), omega ari
 mixed-fits : Fitting mixedCalls
 unfolding Fitting
 mixed-fits = (
-  (omega arith, one 49 (omega arith)),
+  (omega arith, omega arith, one 49 (omega arith)),
   (
-    omega arith,
+    (omega arith, omega arith),
     (
-      (omega arith, two 49 120 (omega arith) (omega arith)),
+      (omega arith, omega arith, two 49 120 (omega arith) (omega arith)),
       (
-        (omega arith, empty),
+        (omega arith, omega arith, empty),
         (
-          omega arith,
+          (omega arith, omega arith),
           (
-            (omega arith, omega arith),
+            (omega arith, omega arith, omega arith),
             (
-              (omega arith, omega arith),
+              (omega arith, omega arith, omega arith),
               (
-                omega arith,
+                (omega arith, omega arith),
                 (
-                  (omega arith, one 113 (omega arith)),
+                  (omega arith, omega arith, one 113 (omega arith)),
                   (
-                    omega arith,
+                    (omega arith, omega arith),
                     (
-                      (omega arith, empty),
+                      (omega arith, omega arith, empty),
                       (
-                        omega arith,
+                        (omega arith, omega arith),
                         (
-                          (omega arith, two 49 120 (omega arith) (omega arith)),
+                          (omega arith, omega arith, two 49 120 (omega arith) (omega arith)),
                           (
-                            (omega arith, (omega arith, one 0x12 (omega arith))),
-                            ((omega arith, one 113 (omega arith)), ((omega arith, empty), ((omega arith, empty), ((omega arith, two 48 49 (omega arith) (omega arith)), tt)))),
+                            (omega arith, omega arith, (omega arith, one 0x12 (omega arith))),
+                            (
+                              (omega arith, omega arith, one 113 (omega arith)),
+                              ((omega arith, omega arith, empty), ((omega arith, omega arith, empty), ((omega arith, omega arith, two 48 49 (omega arith) (omega arith)), tt))),
+                            ),
                           ),
                         ),
                       ),
@@ -168,7 +184,7 @@ mixed-fits = (
 
 pub mixed-recorded : Recorded (settingsOf 2 4 1) mixed mixedCalls 153
 unfolding groups lebOf le unle symbolOf classOfAll allSymbols symbolsIn lastOr vcdBit textOf extended textSymbols numberOf digits packed unpacked rawSymbols decode changeBytes les
-    dataOf offsetsFrom blockBytes headBytes wayOf skipBegun skipEnded skipSame skipCounted itemsOf gather unknownKind startTests stateTests partsFrom cutOf timeOf changeOf finishOf startOf
+    dataOf offsetsFrom blockBytes headBytes wayOf skipOf withSkip skipBegun skipEnded skipSame skipCounted itemsOf gather anyBad startTests stateTests partsFrom cutOf timeOf changeOf finishOf startOf
     step run
 mixed-recorded = record { lent = mixed-lent; fitting = mixed-fits; start = refl; end = refl }
 
@@ -177,9 +193,9 @@ mixedReplies =
     calls.refuse 3 ∷ say taken ∷ say recorded ∷ say recorded ∷ say taken ∷ say recorded ∷ say recorded ∷ say back ∷ say skipped ∷ say calls.same ∷ say skipped
     ∷ say taken ∷ say recorded ∷ say recorded ∷ calls.refuse 6 ∷ calls.refuse 4 ∷ say recorded ∷ say recorded ∷ []
 
-pub mixed-replies : let r = ranFrom (settingsOf 2 4 1) mixed mixedCalls in (r .replies ≡ mixedReplies) × (step (r .last) finish .memory .state .skips .count ≡ 2)
+pub mixed-replies : let r = ranFrom (settingsOf 2 4 1) mixed mixedCalls in (r .replies ≡ mixedReplies) × (step (r .last) finish .memory .state .skips .zero .count ≡ 2)
 unfolding groups lebOf le unle symbolOf classOfAll allSymbols symbolsIn lastOr vcdBit textOf extended textSymbols numberOf digits packed unpacked rawSymbols decode changeBytes les
-    dataOf offsetsFrom blockBytes headBytes wayOf skipBegun skipEnded skipSame skipCounted itemsOf gather unknownKind startTests stateTests partsFrom cutOf timeOf changeOf finishOf startOf
+    dataOf offsetsFrom blockBytes headBytes wayOf skipOf withSkip skipBegun skipEnded skipSame skipCounted itemsOf gather anyBad startTests stateTests partsFrom cutOf timeOf changeOf finishOf startOf
     step run
 mixed-replies = (refl, refl)
 
@@ -190,9 +206,9 @@ repliesOfTwo =
     ∷ say taken ∷ say recorded ∷ say recorded ∷ calls.refuse 6 ∷ calls.refuse 4 ∷ say recorded ∷ say recorded ∷ []
 
 pub mixed-in-two : let r = ranFrom (settingsOf 2 4 2) mixed mixedCalls in
-    (r .replies ≡ repliesOfTwo) × (step (r .last) finish .memory .state .skips .count ≡ 1) × (leftBy (settingsOf 2 4 2) mixed mixedCalls 153 ≡ mixedImage)
+    (r .replies ≡ repliesOfTwo) × (step (r .last) finish .memory .state .skips .zero .count ≡ 1) × (leftBy (settingsOf 2 4 2) mixed mixedCalls 153 ≡ mixedImage)
 unfolding groups lebOf le unle symbolOf classOfAll allSymbols symbolsIn lastOr vcdBit textOf extended textSymbols numberOf digits packed unpacked rawSymbols decode changeBytes les
-    dataOf offsetsFrom blockBytes headBytes wayOf skipBegun skipEnded skipSame skipCounted itemsOf gather unknownKind startTests stateTests partsFrom cutOf timeOf changeOf finishOf startOf
+    dataOf offsetsFrom blockBytes headBytes wayOf skipOf withSkip skipBegun skipEnded skipSame skipCounted itemsOf gather anyBad startTests stateTests partsFrom cutOf timeOf changeOf finishOf startOf
     step run
 mixed-in-two = (refl, refl, refl)
 
@@ -200,7 +216,7 @@ mixed-in-two = (refl, refl, refl)
 abbrev mixedTold : Telling
 mixedTold = tellAll (kindsOf (mixed .records)) 1 noHistory mixedCalls (refusals mixedReplies)
 
-pub mixed-told : (mixedTold .answers ≡ heard mixedReplies) × (mixedTold .last .skips .count ≡ 2) × (mixedTold .last .times ≡ 1 ∷ 2 ∷ 3 ∷ [])
+pub mixed-told : (mixedTold .answers ≡ heard mixedReplies) × (mixedTold .last .skips .zero .count ≡ 2) × (mixedTold .last .times ≡ 1 ∷ 2 ∷ 3 ∷ [])
 unfolding symbolOf classOfAll allSymbols symbolsIn lastOr vcdBit textOf extended textSymbols numberOf digits unpacked rawSymbols decode wayOf tell tellAll same listOf keptAfter kept topOf
 mixed-told = (refl, refl, refl)
 
@@ -228,7 +244,7 @@ mixed-loads = (refl, refl, refl, refl, refl, refl)
 
 -- a signal of width 1; B 4
 abbrev returning : Memory
-returning = memory staleState (recordOf (BitVector 1) 7 Nine ∷ []) (replicate 4 99) (replicate 64 99) (replicate 64 99)
+returning = memory staleState (recordOf (BitVector 1) 7 Nine 0 ∷ []) (replicate 4 99) (replicate 64 99) (replicate 64 99)
 
 -- time 10, and at it 0 and 1
 abbrev returnImage : List ℕ
@@ -237,8 +253,8 @@ returnImage = les 4 (1 ∷ 4 ∷ 1 ∷ 47 ∷ 1 ∷ []) ++ (les 4 (27 ∷ 1 ∷ 
 returning-lent : Lent returning
 unfolding RecordsFit
 returning-lent = record {
-  state = record { limit = omega arith; signals = omega arith; held = omega arith; work = omega arith; image = omega arith; blocks = omega arith; edition = omega arith; skipped = omega arith };
-  records = ((omega arith, omega arith), tt);
+  state = stale-fits;
+  records = ((omega arith, omega arith, omega arith), tt);
   work = nines-slice 64 (omega arith);
   image = nines-slice 64 (omega arith);
   times = λ i. let h = nines-at 4 i in omega arith;
@@ -248,27 +264,30 @@ returning-lent = record {
 sames-fit : Fitting sames
 unfolding Fitting
 sames-fit =
-    let zero-fits : CallFits (change 0 (vcd (48 ∷ []))) = (omega arith, one 48 (omega arith)) in
-    let one-fits : CallFits (change 0 (vcd (49 ∷ []))) = (omega arith, one 49 (omega arith)) in
-    (omega arith, (omega arith, (one-fits, (omega arith, (zero-fits, (omega arith, (one-fits, (omega arith, (omega arith, (zero-fits, tt))))))))))
+    let zero-fits : CallFits (change 0 0 (vcd (48 ∷ []))) = (omega arith, omega arith, one 48 (omega arith)) in
+    let one-fits : CallFits (change 0 0 (vcd (49 ∷ []))) = (omega arith, omega arith, one 49 (omega arith)) in
+    let timed : (t : ℕ) → t < 2 ^ 64 → CallFits (time 0 t) = λ t h. (omega arith, h) in
+    let ten = timed 10 (omega arith) in
+    let nine = timed 9 (omega arith) in
+    (ten, (timed 5 (omega arith), (one-fits, (ten, (zero-fits, (ten, (one-fits, (nine, (nine, (zero-fits, tt))))))))))
 
 pub return-recorded : Recorded (settingsOf 4 1 2) returning sames 47
 unfolding groups lebOf le unle symbolOf classOfAll allSymbols symbolsIn lastOr vcdBit textOf extended textSymbols numberOf digits packed unpacked rawSymbols decode changeBytes les
-    dataOf offsetsFrom blockBytes headBytes wayOf skipBegun skipEnded skipSame skipCounted itemsOf gather unknownKind startTests stateTests partsFrom cutOf timeOf changeOf finishOf startOf
+    dataOf offsetsFrom blockBytes headBytes wayOf skipOf withSkip skipBegun skipEnded skipSame skipCounted itemsOf gather anyBad startTests stateTests partsFrom cutOf timeOf changeOf finishOf startOf
     step run
 return-recorded = record { lent = returning-lent; fitting = sames-fit; start = refl; end = refl }
 
 pub return-left : leftBy (settingsOf 4 1 2) returning sames 47 ≡ returnImage
 unfolding groups lebOf le unle symbolOf classOfAll allSymbols symbolsIn lastOr vcdBit textOf extended textSymbols numberOf digits packed unpacked rawSymbols decode changeBytes les
-    dataOf offsetsFrom blockBytes headBytes wayOf skipBegun skipEnded skipSame skipCounted itemsOf gather unknownKind startTests stateTests partsFrom cutOf timeOf changeOf finishOf startOf
+    dataOf offsetsFrom blockBytes headBytes wayOf skipOf withSkip skipBegun skipEnded skipSame skipCounted itemsOf gather anyBad startTests stateTests partsFrom cutOf timeOf changeOf finishOf startOf
     step run
 return-left = refl
 
 pub return-told : let h = historyOf (settingsOf 4 1 2) returning sames in
     (h .answers ≡ taken ∷ back ∷ skipped ∷ calls.same ∷ recorded ∷ calls.same ∷ recorded ∷ back ∷ back ∷ skipped ∷ [])
-    × (h .last .times ≡ 10 ∷ []) × (h .last .skips .count ≡ 2) × (keptOf (h .last) 0 ≡ entry 0 (symbols (0 ∷ [])) ∷ entry 0 (symbols (1 ∷ [])) ∷ [])
+    × (h .last .times ≡ 10 ∷ []) × (h .last .skips .zero .count ≡ 2) × (keptOf (h .last) 0 ≡ entry 0 (symbols (0 ∷ [])) ∷ entry 0 (symbols (1 ∷ [])) ∷ [])
 unfolding groups lebOf le unle symbolOf classOfAll allSymbols symbolsIn lastOr vcdBit textOf extended textSymbols numberOf digits packed unpacked rawSymbols decode changeBytes les
-    dataOf offsetsFrom blockBytes headBytes wayOf skipBegun skipEnded skipSame skipCounted itemsOf gather unknownKind startTests stateTests partsFrom cutOf timeOf changeOf finishOf startOf
+    dataOf offsetsFrom blockBytes headBytes wayOf skipOf withSkip skipBegun skipEnded skipSame skipCounted itemsOf gather anyBad startTests stateTests partsFrom cutOf timeOf changeOf finishOf startOf
     step run tell tellAll same listOf keptAfter kept
 return-told = (refl, refl, refl, refl)
 

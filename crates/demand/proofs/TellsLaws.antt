@@ -1,6 +1,6 @@
 -- Every byte string that the opener accepts is left by some list of calls, in memory that can be lent, or joined from such strings.
 -- Assumes nothing.
-use Prim.Native.Nat.{ℕ, _+_, _*_, _≤_, _<_, _^_}
+use Prim.Native.Nat.{ℕ, zero, suc, _+_, _*_, _≤_, _<_, _^_}
 use mathlib.Core.Path.{_≡_, refl, sym, ap, ap₂, _∙_, subst}
 use mathlib.Core.Bool.{true, false}
 use mathlib.Core.List.{List, [], _∷_, map}
@@ -35,7 +35,7 @@ use Rattle.recording.specs.declared.Settings.{Settings}
 use Rattle.recording.specs.declared.SignalRecord.{SignalRecord}
 use Rattle.recording.specs.Calls.{Call, Slice, Fitting}
 use Rattle.recording.specs.Memory.{Memory, memory, After, recordOf}
-use Rattle.recording.specs.Refusals.{unknownKind}
+use Rattle.recording.specs.Refusals.{anyBad}
 use Rattle.recording.specs.State.{closedState, settingsOf}
 use Rattle.recording.specs.Step.{kindsOf}
 use Rattle.loaded.specs.Opener.{openOf}
@@ -46,7 +46,7 @@ use Rattle.follow.proofs.RebuiltFits.{image-fit}
 use Rattle.follow.proofs.RebuiltCount.{image-count}
 use Rattle.follow.proofs.Left.{blocksIn, OneFits, left}
 use Rattle.joined.specs.Join.{JoinAfter, joinAfter, joined, differs, early, joinIn, joinBy, joinOf}
-use Rattle.demand.specs.Demand3.{RecordsFit, Lent, Recorded, leftBy, historyOf, Tells}
+use Rattle.demand.specs.Demand3.{StateFits, RecordsFit, Lent, Recorded, leftBy, historyOf, Tells}
 use Rattle.demand.specs.Demand3 as demand
 
 -- ---- memory of zeros
@@ -58,7 +58,7 @@ zero-slice : (n : ℕ) → n < 2 ^ 63 → Slice (zeros n)
 zero-slice n h = ((λ i. rw (zeros-at n i) (omega arith)), rw (length-replicate {A = ℕ} n 0) h)
 
 abbrev recordFor : SignalEncoding → SignalRecord
-recordFor k = recordOf k 0 Two
+recordFor k = recordOf k 0 Two 0
 
 -- with room for B times, for n changes in the work buffer, and for `size` bytes of image
 abbrev roomFor : (limit n size : ℕ) → List SignalEncoding → Memory
@@ -74,11 +74,24 @@ width-small Absent e = omega arith
 records-room : (ks : List SignalEncoding) → KnownKinds ks → RecordsFit (map recordFor ks)
 unfolding RecordsFit
 records-room [] k = tt
-records-room (x ∷ ks) k = ((width-small x (k .0), omega arith), records-room ks (k .1))
+records-room (x ∷ ks) k = ((width-small x (k .0), omega arith, omega arith), records-room ks (k .1))
+
+closed-fits : StateFits closedState
+closed-fits = record {
+  limit = omega arith;
+  signals = omega arith;
+  held = omega arith;
+  work = omega arith;
+  image = omega arith;
+  blocks = omega arith;
+  edition = omega arith;
+  zero = omega arith;
+  one = omega arith;
+}
 
 room-lent : (limit n size : ℕ) (ks : List SignalEncoding) → KnownKinds ks → limit ≤ 65535 → n ≤ imageLimit → size ≤ imageLimit → Lent (roomFor limit n size ks)
 room-lent limit n size ks known l h k = record {
-  state = record { limit = omega arith; signals = omega arith; held = omega arith; work = omega arith; image = omega arith; blocks = omega arith; edition = omega arith; skipped = omega arith };
+  state = closed-fits;
   records = records-room ks known;
   work = zero-slice (n * mostBytes) (omega arith);
   image = zero-slice size (omega arith);
@@ -90,10 +103,15 @@ kinds-room : (ks : List SignalEncoding) → kindsOf (map recordFor ks) ≡ ks
 kinds-room [] = refl
 kinds-room (k ∷ ks) = ap (λ (l : List SignalEncoding). k ∷ l) (kinds-room ks)
 
-known-room : (ks : List SignalEncoding) → KnownKinds ks → unknownKind (map recordFor ks) ≡ false
-unfolding unknownKind
+known-room : (ks : List SignalEncoding) → KnownKinds ks → anyBad (map recordFor ks) ≡ false
+unfolding anyBad
 known-room [] k = refl
 known-room (x ∷ ks) k = rw (k .0, known-room ks (k .1)) refl
+
+own-room : (ks : List SignalEncoding) (g : ℕ) → getD (map recordFor ks) g (recordOf Absent 0 Two 0) .probe ≡ 0
+own-room [] g = refl
+own-room (k ∷ ks) zero = refl
+own-room (k ∷ ks) (suc g) = own-room ks g
 
 -- ---- a valid image of one block, or of none
 
@@ -156,7 +174,7 @@ module _ (limit : ℕ) (ks : List SignalEncoding) (o : Option (Block (List Entry
       let s = startable in
       let w : length (imageCalls ks o) * mostBytes ≤ length (m .work) = omega (arith, length-replicate {A = ℕ} (length (imageCalls ks o) * mostBytes) 0) in
       let h : imageSize ≤ length (m .image) = omega (arith, length-replicate {A = ℕ} imageSize 0) in
-      let b = left chosen m o s (subst (λ (y : List SignalEncoding). OneFits limit y o) (sym e) (one-fits o (v .blocks)))
+      let b = left chosen m o s (own-room ks) (subst (λ (y : List SignalEncoding). OneFits limit y o) (sym e) (one-fits o (v .blocks)))
       (subst (λ (y : List SignalEncoding). Fitting (imageCalls y o)) (sym e) fitting)
       (subst (λ (y : List SignalEncoding). headSize (length y) + length (blocksBytes y (blocksIn o)) ≤ length (m .image)) (sym e) h)
       (subst (λ (y : List SignalEncoding). length (imageCalls y o) * mostBytes ≤ length (m .work)) (sym e) w) in

@@ -37,10 +37,11 @@ pub record StateFits (s : Encoder) : Type 0 where
   pub image : s .image < 2 ^ 32
   pub blocks : s .blocks < 2 ^ 32
   pub edition : s .edition < 2 ^ 32
-  pub skipped : s .skips .count < 2 ^ 32
+  pub zero : s .skips .zero .count < 2 ^ 32
+  pub one : s .skips .one .count < 2 ^ 32
 
 abbrev pub RecordFits : SignalRecord → Type 0
-RecordFits r = (widthOf (r .kind) < 2 ^ 32) × (r .index < 2 ^ 32)
+RecordFits r = (widthOf (r .kind) < 2 ^ 32) × (r .index < 2 ^ 32) × (r .probe < 2 ^ 8)
 
 unfoldable pub RecordsFit : List SignalRecord → Type 0
 RecordsFit [] = Unit {0}
@@ -108,11 +109,13 @@ pub data Tells : List SignalEncoding → History → List ℕ → Type 0 where
 pub record Demand3 : Type 0 where
   -- "the image left loads as exactly the list's history in document 01"; "A joined image loads as one history after the other"
   pub loads : (ks : List SignalEncoding) (h : History) (b : List ℕ) → Tells ks h b → LoadsAs ks h b
-  -- "The answers of times and changes that are no refusals, and the skipped count, are that history's too"
+  -- "The answers of times and changes that are no refusals, and the skipped count, are that history's too"; "The skipped count is kept per probe"
   pub answers : (settings : Settings) (m : Memory) (calls : List Call) (size : ℕ) → Recorded settings m calls size
       → heard (ranFrom settings m calls .replies) ≡ historyOf settings m calls .answers
-  pub count : (settings : Settings) (m : Memory) (calls : List Call) (size : ℕ) → Recorded settings m calls size
-      → step (ranFrom settings m calls .last) finish .memory .state .skips .count ≡ historyOf settings m calls .last .skips .count
+  pub counts : (settings : Settings) (m : Memory) (calls : List Call) (size : ℕ) → Recorded settings m calls size
+      → let s = step (ranFrom settings m calls .last) finish .memory .state .skips in
+      let k = historyOf settings m calls .last .skips in
+      (s .zero .count ≡ k .zero .count) × (s .one .count ≡ k .one .count)
   -- the opener accepts exactly these: each by `opens` of what `loads` says, and no others
   pub accepted : (b : List ℕ) → Bytes b → openOf b ≡ true → (ks : List SignalEncoding) × (h : History) × Tells ks h b
 

@@ -16,9 +16,9 @@ use Rattle.recording.specs.Step.{changeOf}
 use Rattle.change.specs.Found.{found, foundOf}
 use Rattle.change.proofs.ChangeLaws.{change-found}
 
-pub change-made : (a : Answer) (s s′ : Encoder) (k k′ : SignalRecord) (rs rs′ : List SignalRecord) (t w w′ i : List ℕ) (g : ℕ) (v : Given)
-    → k ≡ getD rs g (recordOf Absent 0 Two)
-    → found (replyOf a) s′ k′ w′ ≡ foundOf s k (length rs) (length t) (length i) w g v
+pub change-made : (a : Answer) (s s′ : Encoder) (k k′ : SignalRecord) (rs rs′ : List SignalRecord) (t w w′ i : List ℕ) (p g : ℕ) (v : Given)
+    → k ≡ getD rs g (recordOf Absent 0 Two 0)
+    → found (replyOf a) s′ k′ w′ ≡ foundOf s k (length rs) (length t) (length i) w p g v
     → rs′ ≡ set rs g k′
-    → after (replyOf a) (memory s′ rs′ t w′ i) ≡ changeOf (memory s rs t w i) g v
-change-made a s s′ k k′ rs rs′ t w w′ i g v e f h = sym (change-found (memory s rs t w i) g v ∙ rw (← e, ← f, ← h) refl)
+    → after (replyOf a) (memory s′ rs′ t w′ i) ≡ changeOf (memory s rs t w i) p g v
+change-made a s s′ k k′ rs rs′ t w w′ i p g v e f h = sym (change-found (memory s rs t w i) g p v ∙ rw (← e, ← f, ← h) refl)

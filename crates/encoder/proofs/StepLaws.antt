@@ -9,7 +9,7 @@ use Rattle.recording.specs.declared.Encoder.{Encoder}
 use Rattle.recording.specs.declared.SignalRecord.{SignalRecord}
 use Rattle.recording.specs.Calls.{replyOf}
 use Rattle.recording.specs.Memory.{memory, after}
-use Rattle.recording.specs.Refusals.{unknownKind}
+use Rattle.recording.specs.Refusals.{anyBad}
 use Rattle.recording.specs.Step.{rewound, fresh}
 use Rattle.head.specs.Kinds.{kindsPut}
 use Rattle.cut.specs.Turns.{firstBy, TurnsFit}
@@ -31,9 +31,9 @@ pub carried-out : (p : Plan) (s : Encoder) (rs rs′ : List SignalRecord) (t t�
 carried-out p s rs rs′ t t′ w i j k l a b c d e = rw (b, d, e, c, a) refl
 
 pub started-out : (settings : Settings) (s : Encoder) (rs rs′ : List SignalRecord) (t i j l : List ℕ)
-    → j ≡ beginIn settings (unknownKind rs) (length rs) (length t) i
-    → rs′ ≡ firstBy fresh (beginOf s settings (unknownKind rs) (length rs) (length t) (length i) .turns) rs
-    → l ≡ kindsPut (beginOf s settings (unknownKind rs) (length rs) (length t) (length i) .turns) rs j
-    → after (replyOf (beginOf s settings (unknownKind rs) (length rs) (length t) (length i) .outcome .answer)) (memory (beginOf s settings (unknownKind rs) (length rs) (length t) (length i) .outcome .state) rs′ t [] l)
+    → j ≡ beginIn settings (anyBad rs) (length rs) (length t) i
+    → rs′ ≡ firstBy fresh (beginOf s settings (anyBad rs) (length rs) (length t) (length i) .turns) rs
+    → l ≡ kindsPut (beginOf s settings (anyBad rs) (length rs) (length t) (length i) .turns) rs j
+    → after (replyOf (beginOf s settings (anyBad rs) (length rs) (length t) (length i) .outcome .answer)) (memory (beginOf s settings (anyBad rs) (length rs) (length t) (length i) .outcome .state) rs′ t [] l)
     ≡ startCarried settings (memory s rs t [] i)
 started-out settings s rs rs′ t i j l a b c = rw (b, c, a) refl

@@ -26,7 +26,7 @@ pub fn value_change<'r, 't, 'w, 'i, 'b>(
     bytes: &'b [u8],
 ) -> Outcome
     ensures { λ r. ⌜ left r (now (records .exit)) (now (times .entry)) (now (work .exit)) (now (image .entry))
-        ≡ changeOf (memory state (now (records .entry)) (now (times .entry)) (now (work .entry)) (now (image .entry))) (target .signal .0) (givenOf value (now (bytes .entry))) ⌝ }
+        ≡ changeOf (memory state (now (records .entry)) (now (times .entry)) (now (work .entry)) (now (image .entry))) (target .sender) (target .signal .0) (givenOf value (now (bytes .entry))) ⌝ }
 {
     let lent = Lengths {
         records: records.len(),
@@ -53,7 +53,7 @@ pub fn vcd_value_change<'r, 't, 'w, 'i, 'b>(
     value: &'b [u8],
 ) -> Outcome
     ensures { λ r. ⌜ left r (now (records .exit)) (now (times .entry)) (now (work .exit)) (now (image .entry))
-        ≡ changeOf (memory state (now (records .entry)) (now (times .entry)) (now (work .entry)) (now (image .entry))) (target .signal .0) (vcd (now (value .entry))) ⌝ }
+        ≡ changeOf (memory state (now (records .entry)) (now (times .entry)) (now (work .entry)) (now (image .entry))) (target .sender) (target .signal .0) (vcd (now (value .entry))) ⌝ }
 {
     value_change(
         state,
@@ -79,7 +79,7 @@ pub fn raw_claim_change<'r, 't, 'w, 'i, 'b>(
     value: &'b [u8],
 ) -> Outcome
     ensures { λ r. ⌜ left r (now (records .exit)) (now (times .entry)) (now (work .exit)) (now (image .entry))
-        ≡ changeOf (memory state (now (records .entry)) (now (times .entry)) (now (work .entry)) (now (image .entry))) (target .signal .0) (raw claim (now (value .entry))) ⌝ }
+        ≡ changeOf (memory state (now (records .entry)) (now (times .entry)) (now (work .entry)) (now (image .entry))) (target .sender) (target .signal .0) (raw claim (now (value .entry))) ⌝ }
 {
     value_change(
         state,
@@ -104,7 +104,7 @@ pub fn real_change<'r, 't, 'w, 'i>(
     bits: u64,
 ) -> Outcome
     ensures { λ r. ⌜ left r (now (records .exit)) (now (times .entry)) (now (work .exit)) (now (image .entry))
-        ≡ changeOf (memory state (now (records .entry)) (now (times .entry)) (now (work .entry)) (now (image .entry))) (target .signal .0) (real bits) ⌝ }
+        ≡ changeOf (memory state (now (records .entry)) (now (times .entry)) (now (work .entry)) (now (image .entry))) (target .sender) (target .signal .0) (real bits) ⌝ }
 {
     value_change(
         state,

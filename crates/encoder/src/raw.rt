@@ -32,7 +32,7 @@ pub fn raw_value_change<'r, 't, 'w, 'i, 'b>(
     value: RawValue<'b>,
 ) -> Outcome
     ensures { λ r. ⌜ left r (now (records .exit)) (now (times .entry)) (now (work .exit)) (now (image .entry))
-        ≡ changeOf (memory state (now (records .entry)) (now (times .entry)) (now (work .entry)) (now (image .entry))) (target .signal .0)
+        ≡ changeOf (memory state (now (records .entry)) (now (times .entry)) (now (work .entry)) (now (image .entry))) (target .sender) (target .signal .0)
         (raw (classNumber (value .entry .claim)) (now (value .entry .bytes))) ⌝ }
 {
     let notation = raw_notation(value.claim);
@@ -68,7 +68,7 @@ pub fn raw_class_change<'r, 't, 'w, 'i, 'b>(
     bytes: &'b [u8],
 ) -> Outcome
     ensures { λ r. ⌜ left r (now (records .exit)) (now (times .entry)) (now (work .exit)) (now (image .entry))
-        ≡ changeOf (memory state (now (records .entry)) (now (times .entry)) (now (work .entry)) (now (image .entry))) (target .signal .0) (raw (classNumber class) (now (bytes .entry))) ⌝ }
+        ≡ changeOf (memory state (now (records .entry)) (now (times .entry)) (now (work .entry)) (now (image .entry))) (target .sender) (target .signal .0) (raw (classNumber class) (now (bytes .entry))) ⌝ }
 {
     let kept = find_record(&*records, target.signal);
     let width = width_of(kept);

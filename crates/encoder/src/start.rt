@@ -5,14 +5,14 @@ use recording::Encoder;
 use recording::Outcome;
 use recording::Settings;
 use recording::SignalRecord;
-use records::has_unknown_kind;
+use records::has_bad_record;
 ghost use mathlib.Core.Path.{_≡_};
 ghost use mathlib.Core.List.{[]};
 ghost use Rattle.recording.specs.Memory.{memory, left};
 ghost use Rattle.recording.specs.Step.{startOf};
 
 // Starts a recording of S signals with at most B times a block, by an edition of the skip rule: writes the image's head, and sets each record's
-// index and class to 0.
+// index and class to 0; its kind and probe stay.
 // The work buffer is not lent: [] stands for it.
 pub fn start<'r, 't, 'i>(
     state: Encoder,
@@ -24,10 +24,10 @@ pub fn start<'r, 't, 'i>(
     ensures { λ r. ⌜ left r (now (records .exit)) (now (times .entry)) [] (now (image .exit))
         ≡ startOf settings (memory state (now (records .entry)) (now (times .entry)) [] (now (image .entry))) ⌝ }
 {
-    let unknown = has_unknown_kind(&*records);
+    let bad = has_bad_record(&*records);
     let n = records.len();
     let t = times.len();
-    let begun = begin(state, settings, unknown, n, t, &mut *image);
+    let begun = begin(state, settings, bad, n, t, &mut *image);
     start_records(records, begun.turns, image);
     begun.outcome
 }

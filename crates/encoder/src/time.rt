@@ -10,8 +10,8 @@ ghost use mathlib.Core.Path.{_≡_};
 ghost use Rattle.recording.specs.Memory.{memory, left};
 ghost use Rattle.recording.specs.Step.{timeOf};
 
-// A time: a larger one than the last is taken, after a cut if the table is full; an equal one adds no time, and ends a skip in edition 2; a
-// smaller one starts a skip.
+// A time: a larger one than the last, whoever sent that, is taken, after a cut if the table is full; an equal one adds no time, and ends the
+// skip of its sender in edition 2; a smaller one starts it.
 pub fn time_change<'r, 't, 'w, 'i>(
     state: Encoder,
     records: &'r mut [SignalRecord],
@@ -21,7 +21,7 @@ pub fn time_change<'r, 't, 'w, 'i>(
     stamp: Stamp,
 ) -> Outcome
     ensures { λ r. ⌜ left r (now (records .exit)) (now (times .exit)) (now (work .entry)) (now (image .exit))
-        ≡ timeOf (memory state (now (records .entry)) (now (times .entry)) (now (work .entry)) (now (image .entry))) (stamp .time) ⌝ }
+        ≡ timeOf (memory state (now (records .entry)) (now (times .entry)) (now (work .entry)) (now (image .entry))) (stamp .sender) (stamp .time) ⌝ }
 {
     let n = records.len();
     let plan = prepare_time(state, n, &*times, work, &mut *image, stamp);

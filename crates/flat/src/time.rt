@@ -11,8 +11,8 @@ ghost use Rattle.recording.specs.Memory.{memory, left};
 ghost use Rattle.recording.specs.Step.{timeOf};
 ghost use Rattle.storage.specs.Storage.{recordsOf};
 
-// A time: a larger one than the last is taken, after a cut if the table is full; an equal one adds no time, and ends a skip in edition 2; a
-// smaller one starts a skip.
+// A time: a larger one than the last, whoever sent that, is taken, after a cut if the table is full; an equal one adds no time, and ends the
+// skip of its sender in edition 2; a smaller one starts it.
 pub fn time_change(
     state: Encoder,
     records: &mut [u64],
@@ -22,7 +22,7 @@ pub fn time_change(
     stamp: Stamp,
 ) -> Outcome
     ensures { λ r. ⌜ left r (recordsOf (now (records .exit))) (now (times .exit)) (now (work .entry)) (now (image .exit))
-        ≡ timeOf (memory state (recordsOf (now (records .entry))) (now (times .entry)) (now (work .entry)) (now (image .entry))) (stamp .time) ⌝ }
+        ≡ timeOf (memory state (recordsOf (now (records .entry))) (now (times .entry)) (now (work .entry)) (now (image .entry))) (stamp .sender) (stamp .time) ⌝ }
 {
     let n = records.len();
     let plan: Plan = prepare_time(state, n, &*times, work, image, stamp);

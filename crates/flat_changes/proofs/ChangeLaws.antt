@@ -39,26 +39,27 @@ module _ (s : Encoder) (r : SignalRecord) (w : List ℕ) (g : ℕ) (fits : Stora
       guarded-either (λ (f : Found). Storable (f .kept)) (roomTests s r (length w) (length b)) (foundRefused s r w) (foundDone s r w g b c) (λ n. fits)
       (storable-with r (s .held - 1) (statesOf (max (classNumber (r .top)) c)) fits (omega arith))
 
-  kept-fits : (records times image : ℕ) (v : Given) → Storable (foundOf s r records times image w g v .kept)
-  kept-fits records times image v = subst (λ (f : Found). Storable (f .kept)) (found-after s r w g v records times image refl refl) (by (admissionOf s records times (length w) image g) refl)
+  kept-fits : (records times image p : ℕ) (v : Given) → Storable (foundOf s r records times image w p g v .kept)
+  kept-fits records times image p v =
+      subst (λ (f : Found). Storable (f .kept)) (found-after s r w p g v records times image refl refl) (by (admissionOf s r records times (length w) image p g) refl)
     where
-      by : (a : Admission) → admissionOf s records times (length w) image g ≡ a → Storable (byAdmission s r w g v a .kept)
+      by : (a : Admission) → admissionOf s r records times (length w) image p g ≡ a → Storable (byAdmission s r w p g v a .kept)
       by (Refused n) e = fits
       by Skipped e = fits
-      by Taken e = by-fits (taken-ready s records times (length w) image g e .held) (decode (r .kind) v)
+      by Taken e = by-fits (taken-ready s r records times (length w) image p g e .held) (decode (r .kind) v)
 
 -- what the code's change leaves
-module _ (s : Encoder) (k : SignalRecord) (l : Lengths) (w w′ : List ℕ) (g : ℕ) (v : Given) (c : Changed)
-    (made : found (replyOf (c .answer)) (c .state) (c .kept) w′ ≡ foundOf s k (l .records) (l .times) (l .image) w g v) where
+module _ (s : Encoder) (k : SignalRecord) (l : Lengths) (w w′ : List ℕ) (p g : ℕ) (v : Given) (c : Changed)
+    (made : found (replyOf (c .answer)) (c .state) (c .kept) w′ ≡ foundOf s k (l .records) (l .times) (l .image) w p g v) where
   pub change-fits : Storable k → Storable (c .kept)
-  change-fits h = subst Storable (sym (ap (λ (f : Found). f .kept) made)) (kept-fits s k w g h (l .records) (l .times) (l .image) v)
+  change-fits h = subst Storable (sym (ap (λ (f : Found). f .kept) made)) (kept-fits s k w g h (l .records) (l .times) (l .image) p v)
 
   -- rs′ are the stored records, o what is answered
   pub change-made : (rs rs′ t i : List ℕ) (o : Outcome)
       → (l .records ≡ length rs) × (l .times ≡ length t) × (l .image ≡ length i)
-      → k ≡ getD (recordsOf rs) g (recordOf Absent 0 Two)
+      → k ≡ getD (recordsOf rs) g (recordOf Absent 0 Two 0)
       → (o .answer ≡ c .answer) × (o .state ≡ c .state) × (recordsOf rs′ ≡ set (recordsOf rs) g (c .kept))
-      → after (replyOf (o .answer)) (memory (o .state) (recordsOf rs′) t w′ i) ≡ changeOf (memory s (recordsOf rs) t w i) g v
-  change-made rs rs′ t i o p e q =
+      → after (replyOf (o .answer)) (memory (o .state) (recordsOf rs′) t w′ i) ≡ changeOf (memory s (recordsOf rs) t w i) p g v
+  change-made rs rs′ t i o h e q =
       rw (q .0, q .1, q .2)
-      (sym (change-found (memory s (recordsOf rs) t w i) g v ∙ rw (records-length rs, ← e, ← (p .0), ← (p .1), ← (p .2), ← made) refl))
+      (sym (change-found (memory s (recordsOf rs) t w i) g p v ∙ rw (records-length rs, ← e, ← (h .0), ← (h .1), ← (h .2), ← made) refl))

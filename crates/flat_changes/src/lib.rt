@@ -50,7 +50,7 @@ pub fn vcd_value_change(
     value: &[u8],
 ) -> Outcome
     ensures { λ r. ⌜ left r (recordsOf (now (records .exit))) (now (times .entry)) (now (work .exit)) (now (image .entry))
-        ≡ changeOf (memory state (recordsOf (now (records .entry))) (now (times .entry)) (now (work .entry)) (now (image .entry))) (target .signal .0) (vcd (now (value .entry))) ⌝ }
+        ≡ changeOf (memory state (recordsOf (now (records .entry))) (now (times .entry)) (now (work .entry)) (now (image .entry))) (target .sender) (target .signal .0) (vcd (now (value .entry))) ⌝ }
 {
     let lent = lengths(&*records, times, image);
     let kept = find_record(&*records, target.signal);
@@ -70,7 +70,7 @@ pub fn raw_value_change(
     value: &[u8],
 ) -> Outcome
     ensures { λ r. ⌜ left r (recordsOf (now (records .exit))) (now (times .entry)) (now (work .exit)) (now (image .entry))
-        ≡ changeOf (memory state (recordsOf (now (records .entry))) (now (times .entry)) (now (work .entry)) (now (image .entry))) (target .signal .0) (raw claim (now (value .entry))) ⌝ }
+        ≡ changeOf (memory state (recordsOf (now (records .entry))) (now (times .entry)) (now (work .entry)) (now (image .entry))) (target .sender) (target .signal .0) (raw claim (now (value .entry))) ⌝ }
 {
     let lent = lengths(&*records, times, image);
     let kept = find_record(&*records, target.signal);
@@ -89,7 +89,7 @@ pub fn real_change(
     bits: u64,
 ) -> Outcome
     ensures { λ r. ⌜ left r (recordsOf (now (records .exit))) (now (times .entry)) (now (work .exit)) (now (image .entry))
-        ≡ changeOf (memory state (recordsOf (now (records .entry))) (now (times .entry)) (now (work .entry)) (now (image .entry))) (target .signal .0) (real bits) ⌝ }
+        ≡ changeOf (memory state (recordsOf (now (records .entry))) (now (times .entry)) (now (work .entry)) (now (image .entry))) (target .sender) (target .signal .0) (real bits) ⌝ }
 {
     let lent = lengths(&*records, times, image);
     let kept = find_record(&*records, target.signal);

@@ -17,7 +17,7 @@ use Rattle.cut.specs.Turns.{firstBy, Place, turned, cutTurns, TurnFits}
 use Rattle.cut.proofs.TurnLaws.{first-get, first-next, turns-next}
 
 abbrev absent : SignalRecord
-absent = recordOf Absent 0 Two
+absent = recordOf Absent 0 Two 0
 
 module _ (f : SignalRecord → SignalRecord) (ns ls : List ℕ) (g : ℕ) (h : g < length ns) (l : length ls ≡ length ns)
     (e : recordsOf ls ≡ firstBy f g (recordsOf ns)) where

@@ -2,7 +2,7 @@
 -- Assumes nothing.
 use Prim.Native.Nat.{ℕ, _+_, _-_, _≤_, _<_}
 use mathlib.Core.Path.{_≡_, refl, sym, ap, ap₂, _∙_, subst}
-use mathlib.Core.Bool.{Bool, true, false, _||_}
+use mathlib.Core.Bool.{Bool, true, false, _||_, not}
 use mathlib.Core.List.{List, [], _∷_}
 use native.Mathlib.Omega.{arith}
 use borrow.Author.Tests.{eq-eqb, ne-eqb, ltb-false, leb-false, eqb-true, eqb-false}
@@ -17,11 +17,11 @@ use Rattle.signal.specs.Content.{Given, Decoded, refuse, accept, decode}
 use Rattle.signal.proofs.DecodeLaws.{accepted}
 use Rattle.recording.specs.declared.Settings.{Settings}
 use Rattle.recording.specs.Calls.{Call, time, change, finish, ValueFits, CallFits, recorded, say, total, isRefusal, heardOf, Way, above, equal, below, wayOf}
-use Rattle.recording.specs.declared.ProbeSkip.{ProbeSkip}
+use Rattle.recording.specs.declared.Skips.{Skips}
 use Rattle.recording.specs.Calls as calls
 use Rattle.recording.specs.Memory.{Memory, After, after, recordAt, guarded, refused}
-use Rattle.recording.specs.Refusals.{openTests, signalTests}
-use Rattle.recording.specs.State.{skipBegun, skipSame, skipCounted, withSkips}
+use Rattle.recording.specs.Refusals.{noProbe, openTests, signalTests}
+use Rattle.recording.specs.State.{skipBegun, skipSame, skipCounted, skipOf, onSkip, withSkips}
 use Rattle.recording.specs.Step.{withState, Cut, noCut, cuts, cutOf, cutIn, timeCut, timeBy, timeOf}
 use Rattle.recording.specs.Step.{sameTime, skipping, skippedOne, recordedIn, changeBy, changeOf, closedNow, closing, finishCut, finishOf, step}
 use Rattle.recording.specs.Step as step
@@ -36,7 +36,7 @@ use Rattle.follow.proofs.OpenLaws.{open-is, room-is, decode-ten}
 pub record Good (settings : Settings) (ks : List SignalEncoding) (p : Model) (c : Call) (e : After) : Type 0 where
   pub rep : Rep settings ks (e .memory) (modelStep ks settings p c (isRefusal (e .reply)))
   pub up : isRefusal (e .reply) ≡ false → p .closed ≡ false
-  pub fine : isRefusal (e .reply) ≡ false → (g : ℕ) (v : Given) → c ≡ change g v → 0 < length (p .now .times)
+  pub fine : isRefusal (e .reply) ≡ false → (q g : ℕ) (v : Given) → c ≡ change q g v → 0 < length (p .now .times)
   pub told : heardOf (e .reply) ≡ modelAnswer ks p c (isRefusal (e .reply))
   pub not-ten : e .reply ≡ calls.refuse 10 → ⊥
   -- a finish answers the used image bytes, and closes
@@ -70,42 +70,43 @@ module _ (settings : Settings) (ks : List SignalEncoding) where
   on-pick p c true x y f g = f refl
   on-pick p c false x y f g = g refl
 
-  opened-good : (m : Memory) (p : Model) (c : Call) (e : After) → Rep settings ks m p → (p .closed ≡ false → Good settings ks p c e)
-      → Good settings ks p c (guarded (openTests m) (refused m) e)
-  opened-good m p c e r f =
-      subst (Good settings ks p c) (sym (open-is settings ks m p (refused m) e r))
-      (on-pick p c (m .state .closed) _ _ (λ q. refuses m p c 2 (λ t. omega arith) r) (λ q. f (sym (r .closed) ∙ q)))
+  opened-good : (m : Memory) (p : Model) (foreign : Bool) (c : Call) (e : After) → Rep settings ks m p → (p .closed ≡ false → Good settings ks p c e)
+      → Good settings ks p c (guarded (openTests m foreign) (refused m) e)
+  opened-good m p foreign c e r f =
+      subst (Good settings ks p c) (sym (open-is settings ks m p foreign (refused m) e r))
+      (on-pick p c (m .state .closed) _ _ (λ q. refuses m p c 2 (λ t. omega arith) r)
+      (λ q. on-pick p c foreign _ _ (λ z. refuses m p c 18 (λ t. omega arith) r) (λ z. f (sym (r .closed) ∙ q))))
 
   -- ---- time
 
-  said-time : (p : Model) (t : ℕ) (way : Way) (m' : Memory) → wayOf (p .now .times) t ≡ way → p .closed ≡ false
-      → Rep settings ks m' (modelTime settings p t way) → Good settings ks p (time t) (after (say (wayAnswer way)) m')
+  said-time : (p : Model) (w t : ℕ) (way : Way) (m' : Memory) → wayOf (p .now .times) t ≡ way → p .closed ≡ false
+      → Rep settings ks m' (modelTime settings p w t way) → Good settings ks p (time w t) (after (say (wayAnswer way)) m')
   unfolding modelStep modelAnswer
-  said-time p t way m' e up r = record {
-    rep = subst (λ (x : Way). Rep settings ks m' (modelTime settings p t x)) (sym e) r;
+  said-time p w t way m' e up r = record {
+    rep = subst (λ (x : Way). Rep settings ks m' (modelTime settings p w t x)) (sym e) r;
     up = λ z. up;
-    fine = λ z g v q. let n : _≡_ {A = ℕ} 0 1 = cc in absurd (omega arith);
+    fine = λ z i g v q. let n : _≡_ {A = ℕ} 0 1 = cc in absurd (omega arith);
     told = ap wayAnswer (sym e);
     not-ten = λ q. let n : _≡_ {A = ℕ} 0 1 = cc in omega arith;
     sum = λ k q. let n : _≡_ {A = ℕ} 0 1 = cc in absurd (omega arith);
   }
 
-  time-cut : (m : Memory) (p : Model) (t : ℕ) (b : Bool) → ltb (length (m .image) - m .state .image) (length (openBytes ks p)) ≡ b
+  time-cut : (m : Memory) (p : Model) (w t : ℕ) (b : Bool) → ltb (length (m .image) - m .state .image) (length (openBytes ks p)) ≡ b
       → wayOf (p .now .times) t ≡ above → p .closed ≡ false → m .state .held ≡ settings .limit → Rep settings ks m p
-      → Good settings ks p (time t) (timeCut m t (pick b (noCut 8) (cuts (openBytes ks p))))
+      → Good settings ks p (time w t) (timeCut m w t (pick b (noCut 8) (cuts (openBytes ks p))))
   unfolding modelTime
-  time-cut m p t true q e up h r = refuses m p (time t) 8 (λ z. omega arith) r
-  time-cut m p t false q e up h r =
+  time-cut m p w t true q e up h r = refuses m p (time w t) 8 (λ z. omega arith) r
+  time-cut m p w t false q e up h r =
       let f = ltb-false (length (m .image) - m .state .image) (length (openBytes ks p)) q in
       let room : m .state .image + length (openBytes ks p) ≤ length (m .image) = omega (arith, f, r .image .room) in
       let full : eqb (length (p .now .times)) (settings .limit) ≡ true = eq-eqb (length (p .now .times)) (settings .limit) (sym (r .times .long) ∙ h) in
       let k = rep-cut settings ks m p (omega (arith, h, r .low)) room r in
-      let z = rep-timed settings ks (cutIn m (openBytes ks p)) (cut p) t (omega (arith, r .low)) k in
-      said-time p t above (step.timed (cutIn m (openBytes ks p)) t) e up
-      (subst (λ (x : Bool). Rep settings ks (step.timed (cutIn m (openBytes ks p)) t) (timed (pick x (cut p) p) t)) (sym full) z)
+      let z = rep-timed settings ks (cutIn m (openBytes ks p)) (cut p) w t (omega (arith, r .low)) k in
+      said-time p w t above (step.timed (cutIn m (openBytes ks p)) w t) e up
+      (subst (λ (x : Bool). Rep settings ks (step.timed (cutIn m (openBytes ks p)) w t) (timed (pick x (cut p) p) w t)) (sym full) z)
 
-  -- another skip
-  rep-skips : (m : Memory) (p : Model) (k l : ProbeSkip) → k ≡ l → Rep settings ks m p
+  -- other skips
+  rep-skips : (m : Memory) (p : Model) (k l : Skips) → k ≡ l → Rep settings ks m p
       → Rep settings ks (withState m (withSkips (m .state) k)) (model (p .blocks) (p .now) l (p .closed))
   rep-skips m p k l e r = record {
     low = r .low;
@@ -128,71 +129,75 @@ module _ (settings : Settings) (ks : List SignalEncoding) where
     start = r .start;
   }
 
-  time-good : (m : Memory) (p : Model) (t : ℕ) (way : Way) → wayOf (p .now .times) t ≡ way → p .closed ≡ false → Rep settings ks m p
-      → Good settings ks p (time t) (timeBy m t way)
+  time-good : (m : Memory) (p : Model) (w t : ℕ) (way : Way) → wayOf (p .now .times) t ≡ way → p .closed ≡ false → Rep settings ks m p
+      → Good settings ks p (time w t) (timeBy m w t way)
   unfolding modelTime
-  time-good m p t equal e up r =
-      said-time p t equal (withState m (sameTime (m .state))) e up (rep-skips m p _ _ (ap₂ skipSame (r .edition) (r .skips)) r)
-  time-good m p t below e up r = said-time p t below (withState m (skipping (m .state))) e up (rep-skips m p _ _ (ap skipBegun (r .skips)) r)
-  time-good m p t above e up r =
-      on-pick p (time t) (eqb (m .state .held) (m .state .limit)) _ _
-      (λ q. subst (λ (x : Cut). Good settings ks p (time t) (timeCut m t x)) (sym (cut-is settings ks m p r))
-      (time-cut m p t _ refl e up (eqb-true (m .state .held) (m .state .limit) q ∙ r .bound) r))
+  time-good m p w t equal e up r =
+      said-time p w t equal (withState m (sameTime (m .state) w)) e up
+      (rep-skips m p _ _ (ap₂ (λ (d : ℕ) (k : Skips). onSkip (skipSame d) k w) (r .edition) (r .skips)) r)
+  time-good m p w t below e up r =
+      said-time p w t below (withState m (skipping (m .state) w)) e up (rep-skips m p _ _ (ap (λ (k : Skips). onSkip skipBegun k w) (r .skips)) r)
+  time-good m p w t above e up r =
+      on-pick p (time w t) (eqb (m .state .held) (m .state .limit)) _ _
+      (λ q. subst (λ (x : Cut). Good settings ks p (time w t) (timeCut m w t x)) (sym (cut-is settings ks m p r))
+      (time-cut m p w t _ refl e up (eqb-true (m .state .held) (m .state .limit) q ∙ r .bound) r))
       (λ q.
       let n = eqb-false (m .state .held) (m .state .limit) q in
       let n' : length (p .now .times) ≡ settings .limit → ⊥ = λ z. n (r .times .long ∙ z ∙ sym (r .bound)) in
       let h : m .state .held < settings .limit = omega (arith, r .times .inside, r .times .long, n') in
-      said-time p t above (step.timed m t) e up
-      (subst (λ (x : Bool). Rep settings ks (step.timed m t) (timed (pick x (cut p) p) t)) (sym (ne-eqb (length (p .now .times)) (settings .limit) n')) (rep-timed settings ks m p t h r)))
+      said-time p w t above (step.timed m w t) e up
+      (subst (λ (x : Bool). Rep settings ks (step.timed m w t) (timed (pick x (cut p) p) w t)) (sym (ne-eqb (length (p .now .times)) (settings .limit) n')) (rep-timed settings ks m p w t h r)))
 
   -- ---- change
 
-  said-change : (p : Model) (g : ℕ) (v : Given) (b : Bool) (d : Decoded) (m' : Memory) → p .skips .on ≡ b → decode (getD ks g Absent) v ≡ d
-      → p .closed ≡ false → 0 < length (p .now .times) → Rep settings ks m' (modelChange p g b d) → Good settings ks p (change g v) (after (say (changeAnswer b d)) m')
+  said-change : (p : Model) (w g : ℕ) (v : Given) (b : Bool) (d : Decoded) (m' : Memory) → skipOf (p .skips) w .on ≡ b → decode (getD ks g Absent) v ≡ d
+      → p .closed ≡ false → 0 < length (p .now .times) → Rep settings ks m' (modelChange p w g b d) → Good settings ks p (change w g v) (after (say (changeAnswer b d)) m')
   unfolding modelStep modelAnswer
-  said-change p g v b d m' e q up k r = record {
-    rep = subst (λ (x : Bool). Rep settings ks m' (modelChange p g x (decode (getD ks g Absent) v))) (sym e)
-        (subst (λ (x : Decoded). Rep settings ks m' (modelChange p g b x)) (sym q) r);
+  said-change p w g v b d m' e q up k r = record {
+    rep = subst (λ (x : Bool). Rep settings ks m' (modelChange p w g x (decode (getD ks g Absent) v))) (sym e)
+        (subst (λ (x : Decoded). Rep settings ks m' (modelChange p w g b x)) (sym q) r);
     up = λ z. up;
-    fine = λ z i u y. k;
+    fine = λ z h i u y. k;
     told = sym (ap (λ (x : Bool). changeAnswer x (decode (getD ks g Absent) v)) e ∙ ap (changeAnswer b) q);
     not-ten = λ z. let n : _≡_ {A = ℕ} 0 1 = cc in omega arith;
     sum = λ n z. let n : _≡_ {A = ℕ} 0 1 = cc in absurd (omega arith);
   }
 
-  read-good : (m : Memory) (p : Model) (g : ℕ) (v : Given) (d : Decoded) → decode (getD ks g Absent) v ≡ d → ValueFits v → p .closed ≡ false
-      → absent (getD ks g Absent) ≡ false → g < length ks → 0 < m .state .held → m .state .skips .on ≡ false → Rep settings ks m p
-      → Good settings ks p (change g v) (changeBy m g d)
-  read-good m p g v (refuse n) q fit up x h k s r = refuses m p (change g v) n (decode-ten (getD ks g Absent) v n q) r
-  read-good m p g v (accept a c) q fit up x h k s r =
+  read-good : (m : Memory) (p : Model) (w g : ℕ) (v : Given) (d : Decoded) → decode (getD ks g Absent) v ≡ d → ValueFits v → p .closed ≡ false
+      → absent (getD ks g Absent) ≡ false → g < length ks → 0 < m .state .held → skipOf (m .state .skips) w .on ≡ false → Rep settings ks m p
+      → Good settings ks p (change w g v) (changeBy m g d)
+  read-good m p w g v (refuse n) q fit up x h k s r = refuses m p (change w g v) n (decode-ten (getD ks g Absent) v n q) r
+  read-good m p w g v (accept a c) q fit up x h k s r =
       let y = accepted (getD ks g Absent) v a c (value-given v fit) q in
       let two : c ≤ 2 = omega (arith, y .limit, top-small (getD ks g Absent)) in
       let b : List ℕ = bytesIn settings ks m g a in
-      subst (Good settings ks p (change g v)) (sym (room-is settings ks m p g (length b) (refused m) (after (say recorded) (recordedIn m g b c)) h r))
-      (on-pick p (change g v) (ltb (length (m .work)) (m .state .work + (8 + length b))) _ _ (λ z. refuses m p (change g v) 7 (λ t. omega arith) r)
-      (λ z. said-change p g v false (accept a c) (recordedIn m g b c) (sym (ap (λ (k : ProbeSkip). k .on) (r .skips)) ∙ s) q up (omega (arith, r .times .long))
-      (rep-recorded settings ks m p g c a h x k (y .fits) two (ltb-false (length (m .work)) (m .state .work + (8 + length b)) z) r)))
+      subst (Good settings ks p (change w g v)) (sym (room-is settings ks m p g (length b) (refused m) (after (say recorded) (recordedIn m g b c)) h r))
+      (on-pick p (change w g v) (ltb (length (m .work)) (m .state .work + (8 + length b))) _ _ (λ z. refuses m p (change w g v) 7 (λ t. omega arith) r)
+      (λ z. said-change p w g v false (accept a c) (recordedIn m g b c) (sym (ap (λ (k : Skips). skipOf k w .on) (r .skips)) ∙ s) q up (omega (arith, r .times .long))
+      (rep-recorded settings ks m p w g c a h x k (y .fits) two (ltb-false (length (m .work)) (m .state .work + (8 + length b)) z) r)))
 
-  change-good : (m : Memory) (p : Model) (g : ℕ) (v : Given) → ValueFits v → p .closed ≡ false → Rep settings ks m p
-      → Good settings ks p (change g v)
-      (pick (eqb (m .state .held) 0) (refused m 3) (pick (m .state .skips .on) (after (say calls.skipped) (withState m (skippedOne (m .state))))
-      (guarded (signalTests (m .state) (recordAt m g) g) (refused m) (changeBy m g (decode (recordAt m g .kind) v)))))
+  change-good : (m : Memory) (p : Model) (w g : ℕ) (v : Given) → ValueFits v → p .closed ≡ false → Rep settings ks m p
+      → Good settings ks p (change w g v)
+      (pick (eqb (m .state .held) 0) (refused m 3) (pick (skipOf (m .state .skips) w .on) (after (say calls.skipped) (withState m (skippedOne (m .state) w)))
+      (guarded (signalTests (m .state) (recordAt m g) w g) (refused m) (changeBy m g (decode (recordAt m g .kind) v)))))
   unfolding modelChange
-  change-good m p g v fit up r =
-      on-pick p (change g v) (eqb (m .state .held) 0) _ _ (λ q. refuses m p (change g v) 3 (λ t. omega arith) r)
+  change-good m p w g v fit up r =
+      on-pick p (change w g v) (eqb (m .state .held) 0) _ _ (λ q. refuses m p (change w g v) 3 (λ t. omega arith) r)
       (λ q0.
       let n = eqb-false (m .state .held) 0 q0 in
       let k : 0 < m .state .held = omega (arith, n) in
-      on-pick p (change g v) (m .state .skips .on) _ _
-      (λ s. said-change p g v true (decode (getD ks g Absent) v) (withState m (skippedOne (m .state))) (sym (ap (λ (k : ProbeSkip). k .on) (r .skips)) ∙ s) refl up (omega (arith, r .times .long))
-      (rep-skips m p _ _ (ap skipCounted (r .skips)) r))
-      (λ s. on-pick p (change g v) (leb (m .state .signals) g || absent (recordAt m g .kind)) _ _ (λ q. refuses m p (change g v) 4 (λ t. omega arith) r)
-      (λ q1.
+      on-pick p (change w g v) (skipOf (m .state .skips) w .on) _ _
+      (λ s. said-change p w g v true (decode (getD ks g Absent) v) (withState m (skippedOne (m .state) w)) (sym (ap (λ (k : Skips). skipOf k w .on) (r .skips)) ∙ s) refl up
+      (omega (arith, r .times .long))
+      (rep-skips m p _ _ (ap (λ (k : Skips). onSkip skipCounted k w) (r .skips)) r))
+      (λ s. on-pick p (change w g v) (leb (m .state .signals) g || absent (recordAt m g .kind)) _ _ (λ q. refuses m p (change w g v) 4 (λ t. omega arith) r)
+      (λ q1. on-pick p (change w g v) (not (eqb (recordAt m g .probe) w)) _ _ (λ q. refuses m p (change w g v) 18 (λ t. omega arith) r)
+      (λ q2.
       let o = none-holds (leb (m .state .signals) g) (absent (recordAt m g .kind)) q1 in
       let h : g < length ks = omega (arith, leb-false (m .state .signals) g (o .0), r .signals) in
       let kind : recordAt m g .kind ≡ getD ks g Absent = r .recs .is g h .kind in
-      subst (λ (x : SignalEncoding). Good settings ks p (change g v) (changeBy m g (decode x v))) (sym kind)
-      (read-good m p g v (decode (getD ks g Absent) v) refl fit up (sym (ap absent kind) ∙ o .1) h k s r))))
+      subst (λ (x : SignalEncoding). Good settings ks p (change w g v) (changeBy m g (decode x v))) (sym kind)
+      (read-good m p w g v (decode (getD ks g Absent) v) refl fit up (sym (ap absent kind) ∙ o .1) h k s r)))))
 
   -- ---- finish
 
@@ -202,7 +207,7 @@ module _ (settings : Settings) (ks : List SignalEncoding) where
   said-finish p m' b e up r c = record {
     rep = subst (λ (x : Bool). Rep settings ks m' (close (pick x p (cut p)))) (sym e) r;
     up = λ z. up;
-    fine = λ z g v q. let n : _≡_ {A = ℕ} 0 1 = cc in absurd (omega arith);
+    fine = λ z i g v q. let n : _≡_ {A = ℕ} 0 1 = cc in absurd (omega arith);
     told = refl;
     not-ten = λ z. let n : _≡_ {A = ℕ} 0 1 = cc in omega arith;
     sum = λ n z. let q : m' .state .image ≡ n = cc in (sym q, c);
@@ -255,8 +260,8 @@ module _ (settings : Settings) (ks : List SignalEncoding) where
 
   pub step-good : (m : Memory) (p : Model) (c : Call) → CallFits c → Rep settings ks m p → Good settings ks p c (step m c)
   unfolding step timeOf changeOf finishOf
-  step-good m p (time t) fit r =
-      opened-good m p (time t) _ r
-      (λ up. subst (λ (x : List ℕ). Good settings ks p (time t) (timeBy m t (wayOf x t))) (sym (r .times .is)) (time-good m p t (wayOf (p .now .times) t) refl up r))
-  step-good m p (change g v) fit r = opened-good m p (change g v) _ r (λ up. change-good m p g v (fit .1) up r)
-  step-good m p finish fit r = opened-good m p finish _ r (λ up. finish-good m p up r)
+  step-good m p (time w t) fit r =
+      opened-good m p (noProbe w) (time w t) _ r
+      (λ up. subst (λ (x : List ℕ). Good settings ks p (time w t) (timeBy m w t (wayOf x t))) (sym (r .times .is)) (time-good m p w t (wayOf (p .now .times) t) refl up r))
+  step-good m p (change w g v) fit r = opened-good m p (noProbe w) (change w g v) _ r (λ up. change-good m p w g v (fit .2) up r)
+  step-good m p finish fit r = opened-good m p false finish _ r (λ up. finish-good m p up r)

@@ -12,6 +12,7 @@ use Rattle.signal.specs.declared.kind.SignalEncoding.{SignalEncoding}
 use Rattle.signal.specs.declared.kind.SignalEncoding.the-variants.{Absent}
 use Rattle.signal.specs.Content.{Decoded, refuse, accept, decode}
 use Rattle.recording.specs.declared.Settings.{Settings}
+use Rattle.recording.specs.State.{skipOf}
 use Rattle.recording.specs.Calls.{Call, time, change, finish, Way, above, equal, below, wayOf}
 use Rattle.model.specs.Model.{Chunk, Model, cut, modelTime, modelChange, noTime, modelStep}
 use Rattle.model.proofs.Rebuild.{modelRun}
@@ -38,23 +39,23 @@ unfolding cut
 grown-last p true = kept refl
 grown-last p false = ended refl
 
-grown-time : (settings : Settings) (p : Model) (t : ℕ) (way : Way) → Grown p (modelTime settings p t way .blocks)
+grown-time : (settings : Settings) (p : Model) (q t : ℕ) (way : Way) → Grown p (modelTime settings p q t way .blocks)
 unfolding modelTime
-grown-time settings p t above = grown-cut p (eqb (length (p .now .times)) (settings .limit))
-grown-time settings p t equal = kept refl
-grown-time settings p t below = kept refl
+grown-time settings p q t above = grown-cut p (eqb (length (p .now .times)) (settings .limit))
+grown-time settings p q t equal = kept refl
+grown-time settings p q t below = kept refl
 
-grown-change : (p : Model) (g : ℕ) (b : Bool) (d : Decoded) → Grown p (modelChange p g b d .blocks)
+grown-change : (p : Model) (q g : ℕ) (b : Bool) (d : Decoded) → Grown p (modelChange p q g b d .blocks)
 unfolding modelChange
-grown-change p g true d = kept refl
-grown-change p g false (refuse n) = kept refl
-grown-change p g false (accept a c) = kept refl
+grown-change p q g true d = kept refl
+grown-change p q g false (refuse n) = kept refl
+grown-change p q g false (accept a c) = kept refl
 
 pub step-grown : (ks : List SignalEncoding) (settings : Settings) (p : Model) (c : Call) (refused : Bool) → Grown p (modelStep ks settings p c refused .blocks)
 unfolding modelStep
 step-grown ks settings p c true = kept refl
-step-grown ks settings p (time t) false = grown-time settings p t (wayOf (p .now .times) t)
-step-grown ks settings p (change g v) false = grown-change p g (p .skips .on) (decode (getD ks g Absent) v)
+step-grown ks settings p (time q t) false = grown-time settings p q t (wayOf (p .now .times) t)
+step-grown ks settings p (change q g v) false = grown-change p q g (skipOf (p .skips) q .on) (decode (getD ks g Absent) v)
 step-grown ks settings p finish false = grown-last p (noTime (p .now .times))
 
 record Longer (bs cs : List Chunk) : Type 0 where

@@ -28,7 +28,8 @@ use Rattle.follow.proofs.Rep.{Rep}
 use Rattle.follow.proofs.Calls.{step-good}
 use Rattle.follow.proofs.Start.{start-rep}
 use Rattle.follow.proofs.Growth.{step-grows}
-use Rattle.follow.proofs.Accepts.{finish-accepted, run-accepts}
+use Rattle.follow.proofs.Accepts.{Own, finish-accepted, run-accepts}
+use Rattle.follow.proofs.Probes.{start-probe}
 
 -- a list that the model takes whole, after which a finish leaves the blocks ss
 record Rebuilds (settings : Settings) (ks : List SignalEncoding) (cs : List Call) (ss : List (Block (List Entry))) : Type 0 where
@@ -89,26 +90,27 @@ module _ (settings : Settings) (ks : List SignalEncoding) (cs : List Call) (ss :
             ∙ ap (λ (x : List (Block (List Entry))). imageBytes (image (settings .limit) ks x)) (b .blocks);
       }
 
-  run-left : (m : Memory) → Fitting cs → Rep settings ks m noModel → m .state .work ≡ 0 → headSize (length ks) + length (blocksBytes ks ss) ≤ length (m .image)
+  run-left : (m : Memory) → Fitting cs → Own m → Rep settings ks m noModel → m .state .work ≡ 0 → headSize (length ks) + length (blocksBytes ks ss) ≤ length (m .image)
       → length cs * mostBytes ≤ length (m .work) → LeftBy (settings .limit) ks ss (run m cs .last)
-  run-left m fit r z h f =
+  run-left m fit own r z h f =
       let q : Model = modelRun settings ks noModel cs in
       let n : sizeFor ks (modelStep ks settings q finish false .blocks) ≡ headSize (length ks) + length (blocksBytes ks ss) =
       ap (λ (x : List (Block (List Entry))). headSize (length ks) + length (blocksBytes ks x)) (b .blocks) in
       let s = step-grows ks settings q finish in
-      let a = run-accepts settings ks cs m noModel fit r (b .proper) (omega (arith, n, s, h)) (omega (arith, z, f)) in
+      let a = run-accepts settings ks cs m noModel fit own r (b .proper) (omega (arith, n, s, h)) (omega (arith, z, f)) in
       finish-left (run m cs .last) (a .0) (rw (a .1) h)
 
 -- from a start that is taken, with the work and image that the list wants
-pub left : (settings : Settings) (m : Memory) (o : Option (Block (List Entry))) → StartableIn settings m → OneFits (settings .limit) (kindsOf (m .records)) o
+pub left : (settings : Settings) (m : Memory) (o : Option (Block (List Entry))) → StartableIn settings m → Own m → OneFits (settings .limit) (kindsOf (m .records)) o
     → Fitting (imageCalls (kindsOf (m .records)) o)
     → headSize (length (kindsOf (m .records))) + length (blocksBytes (kindsOf (m .records)) (blocksIn o)) ≤ length (m .image)
     → length (imageCalls (kindsOf (m .records)) o) * mostBytes ≤ length (m .work)
     → LeftBy (settings .limit) (kindsOf (m .records)) (blocksIn o) (run (startOf settings m .memory) (imageCalls (kindsOf (m .records)) o) .last)
-left settings m o s v fit h f =
+left settings m o s own v fit h f =
     let ks : List SignalEncoding = kindsOf (m .records) in
     let e : startOf settings m .memory ≡ begunIn settings m .memory = ap (λ (x : After). x .memory) (start-fits settings m s) in
     let l : length (startOf settings m .memory .image) ≡ length (m .image) = ap (λ (x : Memory). length (x .image)) e ∙ simp length-sets in
     let w : length (startOf settings m .memory .work) ≡ length (m .work) = ap (λ (x : Memory). length (x .work)) e in
     let b = rebuilds settings ks o (omega (arith, s .low)) v in
-    run-left settings ks (imageCalls ks o) (blocksIn o) b (startOf settings m .memory) fit (start-rep settings m s) (ap (λ (x : Memory). x .state .work) e) (rw l h) (rw w f)
+    run-left settings ks (imageCalls ks o) (blocksIn o) b (startOf settings m .memory) fit (λ g. start-probe settings m g ∙ own g) (start-rep settings m s)
+    (ap (λ (x : Memory). x .state .work) e) (rw l h) (rw w f)

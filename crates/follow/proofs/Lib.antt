@@ -5,8 +5,10 @@ pub mod RecsRep
 pub mod WorkRep
 pub mod ImageRep
 pub mod Rep
+pub mod Probes
 pub mod OpenLaws
 pub mod Calls
+pub mod Judged
 pub mod Start
 pub mod Whole
 pub mod Growth

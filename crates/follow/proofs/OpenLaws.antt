@@ -46,17 +46,18 @@ and-no u h f = go (ℕ-discrete h 0)
     go (no n) = rw (ne-eqb h 0 n) (both (ltb 0 u))
 
 module _ (settings : Settings) (ks : List SignalEncoding) where
-  -- of 2 and the first group of 10 only 2 can refuse a call
-  pub open-is : {A : Type 0} (m : Memory) (p : Model) (f : ℕ → A) (e : A) → Rep settings ks m p → guarded (openTests m) f e ≡ pick (m .state .closed) (f 2) e
+  -- of 2, 18 of the sender and the first group of 10 only 2 and 18 can refuse a call
+  pub open-is : {A : Type 0} (m : Memory) (p : Model) (b : Bool) (f : ℕ → A) (e : A) → Rep settings ks m p
+      → guarded (openTests m b) f e ≡ pick (m .state .closed) (f 2) (pick b (f 18) e)
   unfolding stateTests
-  open-is m p f e r =
+  open-is {A = A} m p foreign f e r =
       let s = m .state in
       let n = blocks-count ks (storedAll ks (p .blocks)) in
       let c = length-image (length ks) (p .blocks) [] in
       let b : s .blocks ≤ s .image = omega (arith, r .image .count, r .image .long, n, c) in
       let k : length (m .records) ≡ length ks = r .recs .long in
       let z : s .held ≡ 0 → s .work ≡ 0 = λ q. r .start (omega (arith, r .times .long)) in
-      ap (pick (s .closed) (f 2))
+      ap (λ (x : A). pick (s .closed) (f 2) (pick foreign (f 18) x))
       (pick-false (outside (s .limit)) _ _
       (or-false (ltb (s .limit) 2) (ltb 65535 (s .limit)) (le-ltb (s .limit) 2 (omega (arith, r .low, r .bound))) (le-ltb 65535 (s .limit) (omega (arith, r .high, r .bound))))
       ∙ pick-false (noEdition (s .edition)) _ _

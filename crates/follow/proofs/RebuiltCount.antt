@@ -55,7 +55,7 @@ module _ (ks : List SignalEncoding) where
   unfolding blockCalls
   block-calls [] i ps = omega (arith, round-count i 0 ps)
   block-calls (t ∷ ts) i ps =
-      omega (arith, length-append (roundCalls ks i 0 ps) (time t ∷ blockCalls ks (suc i) ts (restOf i ps)), round-count i 0 ps, block-calls ts (suc i) (restOf i ps))
+      omega (arith, length-append (roundCalls ks i 0 ps) (time 0 t ∷ blockCalls ks (suc i) ts (restOf i ps)), round-count i 0 ps, block-calls ts (suc i) (restOf i ps))
 
   first-count : (ts : List ℕ) (ps : List (Part (List Entry))) → length (firstCalls ks ts ps) ≤ length ts + entriesIn ps
   unfolding firstCalls

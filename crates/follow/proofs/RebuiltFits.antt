@@ -1,4 +1,4 @@
--- The calls rebuilt from a block that fits are such as a caller can make: times of 64 bits, signal numbers of 32, values in slices of bytes.
+-- The calls rebuilt from a block that fits are such as a caller can make: times of 64 bits, senders and signal numbers of 32, values in slices of bytes.
 -- Assumes nothing.
 use Prim.Native.Nat.{ℕ, zero, suc, _+_, _≤_, _<_, _^_}
 use mathlib.Core.Path.{_≡_, sym, ap, _∙_, subst}
@@ -72,7 +72,7 @@ module _ (ks : List SignalEncoding) where
   calls-fit : (g t : ℕ) (es : List Entry) → g < 2 ^ 32 → Values (getD ks g Absent) t es → Fitting (callsOf ks g t es)
   unfolding Fitting callsOf
   calls-fit g t [] h v = tt
-  calls-fit g t (e ∷ es) h v = ((h, v .0), calls-fit g t es h (v .1))
+  calls-fit g t (e ∷ es) h v = ((omega arith, h, v .0), calls-fit g t es h (v .1))
 
   round-fit : (i g : ℕ) (ps : List (Part (List Entry))) → PartsSay g ps → Fitting (roundCalls ks i g ps)
   unfolding Fitting roundCalls
@@ -85,12 +85,12 @@ module _ (ks : List SignalEncoding) where
   unfolding Fitting blockCalls
   block-fit [] i ps b v = round-fit i 0 ps v
   block-fit (t ∷ ts) i ps b v =
-      fit-append (roundCalls ks i 0 ps) (time t ∷ blockCalls ks (suc i) ts (restOf i ps)) (round-fit i 0 ps v) (b .0, block-fit ts (suc i) (restOf i ps) (b .1) (rest-say i 0 ps v))
+      fit-append (roundCalls ks i 0 ps) (time 0 t ∷ blockCalls ks (suc i) ts (restOf i ps)) (round-fit i 0 ps v) ((omega arith, b .0), block-fit ts (suc i) (restOf i ps) (b .1) (rest-say i 0 ps v))
 
   first-fit : (ts : List ℕ) (ps : List (Part (List Entry))) → EachBelow (2 ^ 64) ts → PartsSay 0 ps → Fitting (firstCalls ks ts ps)
   unfolding Fitting firstCalls
   first-fit [] ps b v = tt
-  first-fit (t ∷ ts) ps b v = (b .0, block-fit ts 0 ps (b .1) v)
+  first-fit (t ∷ ts) ps b v = ((omega arith, b .0), block-fit ts 0 ps (b .1) v)
 
   -- ---- the parts of a valid block
 

@@ -23,7 +23,7 @@ use Rattle.follow.specs.Marked.{marked}
 use Rattle.follow.proofs.ChangeLaws.{list-same, list-other, top-same, top-other, last-snoc}
 
 abbrev pub noRecord : SignalRecord
-noRecord = recordOf Absent 0 Two
+noRecord = recordOf Absent 0 Two 0
 
 -- one record; cs are the open block's changes, seen those before it
 pub record RecordIs (k : SignalEncoding) (r : SignalRecord) (seen cs : List Change) (i : ℕ) : Type 0 where
@@ -37,7 +37,7 @@ pub record RecsRep (ks : List SignalEncoding) (recs : List SignalRecord) (seen c
 
 -- the record after a change at place m of class c
 abbrev pub changed : SignalRecord → (m c : ℕ) → SignalRecord
-changed r m c = recordOf (r .kind) m (statesOf (max (classNumber (r .top)) c))
+changed r m c = recordOf (r .kind) m (statesOf (max (classNumber (r .top)) c)) (r .probe)
 
 same-record : (k : SignalEncoding) (r : SignalRecord) (seen cs : List Change) (g m c : ℕ) (a : Content) → c ≤ 2 → RecordIs k r seen cs g
     → RecordIs k (changed r m c) seen (cs ++ marked g m a c ∷ []) g

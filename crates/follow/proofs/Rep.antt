@@ -22,7 +22,8 @@ use Rattle.codec.specs.Ends.{lastIndex}
 use Rattle.recording.specs.declared.Settings.{Settings}
 use Rattle.recording.specs.Work.{itemsOf}
 use Rattle.recording.specs.Memory.{Memory, recordAt}
-use Rattle.recording.specs.State.{skipEnded}
+use Rattle.recording.specs.declared.Skips.{Skips}
+use Rattle.recording.specs.State.{skipEnded, onSkip}
 use Rattle.recording.specs.Step.{noCut, cuts, cutBlock, cutItems, cutOf, cutIn, recordedIn, partsFrom}
 use Rattle.recording.specs.Step as step
 use Rattle.history.specs.History.{listOf}
@@ -101,8 +102,8 @@ module _ (settings : Settings) (ks : List SignalEncoding) where
     start = λ e. refl;
   }
 
-  pub rep-timed : (m : Memory) (p : Model) (t : ℕ) → m .state .held < settings .limit → Rep settings ks m p → Rep settings ks (step.timed m t) (timed p t)
-  rep-timed m p t h r = record {
+  pub rep-timed : (m : Memory) (p : Model) (q t : ℕ) → m .state .held < settings .limit → Rep settings ks m p → Rep settings ks (step.timed m q t) (timed p q t)
+  rep-timed m p q t h r = record {
     low = r .low;
     high = r .high;
     early = r .early;
@@ -114,7 +115,7 @@ module _ (settings : Settings) (ks : List SignalEncoding) where
     edition = r .edition;
     signals = r .signals;
     closed = r .closed;
-    skips = ap skipEnded (r .skips);
+    skips = ap (λ (k : Skips). onSkip skipEnded k q) (r .skips);
     times = times-more (settings .limit) (m .state .held) t (m .times) (p .now .times) h (r .times);
     recs = r .recs;
     work = r .work;
@@ -141,11 +142,11 @@ module _ (settings : Settings) (ks : List SignalEncoding) where
   bytes-few m p g a h f r =
       rw (bytes-are m p g a h r) (change-few (getD ks g Absent) (length (p .now .times) - 1 - lastIndex 0 (listOf g (p .now .changes))) a (r .known g h) f)
 
-  pub rep-recorded : (m : Memory) (p : Model) (g c : ℕ) (a : Content) → g < length ks → absent (getD ks g Absent) ≡ false → 0 < m .state .held
+  pub rep-recorded : (m : Memory) (p : Model) (w g c : ℕ) (a : Content) → g < length ks → absent (getD ks g Absent) ≡ false → 0 < m .state .held
       → ContentFits (getD ks g Absent) a → c ≤ 2 → m .state .work + (8 + length (bytesIn m g a)) ≤ length (m .work) → Rep settings ks m p
-      → Rep settings ks (recordedIn m g (bytesIn m g a) c) (modelChange p g false (accept a c))
+      → Rep settings ks (recordedIn m g (bytesIn m g a) c) (modelChange p w g false (accept a c))
   unfolding modelChange
-  rep-recorded m p g c a h x k d two f r =
+  rep-recorded m p w g c a h x k d two f r =
       let n : m .state .held - 1 ≡ length (p .now .times) - 1 = omega (arith, r .times .long) in
       let q = bytes-are m p g a h r in
       let l : length (bytesIn m g a) < 4294967296 = omega (arith, bytes-few m p g a h d r) in

@@ -20,7 +20,7 @@ use Rattle.recording.specs.declared.Settings.{Settings}
 use Rattle.recording.specs.declared.SignalRecord.{SignalRecord}
 use Rattle.recording.specs.Calls.{refuse, started}
 use Rattle.recording.specs.Memory.{Memory, After, first}
-use Rattle.recording.specs.Refusals.{unknownKind}
+use Rattle.recording.specs.Refusals.{noProbe, badRecord, anyBad}
 use Rattle.recording.specs.Step.{startOf, kindIn, kindsOf}
 use Rattle.recording.proofs.StartLaws.{StartableIn, begunIn, start-fits, asked, start-lawful, start-refused}
 use Rattle.history.specs.History.{listOf}
@@ -33,18 +33,21 @@ use Rattle.follow.proofs.Rep.{Rep}
 
 -- ---- kinds
 
-known-at : (rs : List SignalRecord) → unknownKind rs ≡ false → (i : ℕ) → i < length (kindsOf rs) → knownKind (getD (kindsOf rs) i Absent) ≡ true
-unfolding unknownKind
-known-at [] e i h = absurd (omega arith)
-known-at (r ∷ rs) e zero h = not-false (knownKind (r .kind)) (none-holds (not (knownKind (r .kind))) (unknownKind rs) e .0)
-known-at (r ∷ rs) e (suc i) h = known-at rs (none-holds (not (knownKind (r .kind))) (unknownKind rs) e .1) i (omega arith)
+known-record : (r : SignalRecord) → badRecord r ≡ false → knownKind (r .kind) ≡ true
+known-record r e = not-false (knownKind (r .kind)) (none-holds (not (knownKind (r .kind))) (noProbe (r .probe)) e .0)
 
-pub known-kinds : (rs : List SignalRecord) → unknownKind rs ≡ false → KnownKinds (kindsOf rs)
-unfolding unknownKind
+known-at : (rs : List SignalRecord) → anyBad rs ≡ false → (i : ℕ) → i < length (kindsOf rs) → knownKind (getD (kindsOf rs) i Absent) ≡ true
+unfolding anyBad
+known-at [] e i h = absurd (omega arith)
+known-at (r ∷ rs) e zero h = known-record r (none-holds (badRecord r) (anyBad rs) e .0)
+known-at (r ∷ rs) e (suc i) h = known-at rs (none-holds (badRecord r) (anyBad rs) e .1) i (omega arith)
+
+pub known-kinds : (rs : List SignalRecord) → anyBad rs ≡ false → KnownKinds (kindsOf rs)
+unfolding anyBad
 known-kinds [] e = tt
 known-kinds (r ∷ rs) e =
-    let o = none-holds (not (knownKind (r .kind))) (unknownKind rs) e in
-    (not-false (knownKind (r .kind)) (o .0), known-kinds rs (o .1))
+    let o = none-holds (badRecord r) (anyBad rs) e in
+    (known-record r (o .0), known-kinds rs (o .1))
 
 -- ---- taken or not
 

@@ -2,7 +2,7 @@
 -- valid image, whose blocks join to the history.
 -- Assumes nothing.
 use Prim.Native.Nat.{ℕ}
-use mathlib.Core.Path.{_≡_, refl, sym, ap, _∙_}
+use mathlib.Core.Path.{_≡_, refl, sym, ap, _∙_, subst}
 use mathlib.Core.Bool.{Bool, true, false}
 use mathlib.Core.List.{List, [], _∷_}
 use mathlib.Core.Option.{none}
@@ -21,9 +21,9 @@ use Rattle.recording.specs.declared.ProbeSkip.{ProbeSkip}
 use Rattle.recording.specs.Memory.{Memory}
 use Rattle.recording.specs.Step.{startOf, step, run, Ran, kindsOf}
 use Rattle.recording.proofs.StartLaws.{StartableIn}
-use Rattle.history.specs.History.{History, noHistory, Telling, tellTime, tellChange, tell, tellAll}
-use Rattle.model.specs.Model.{Model, noModel, modelStep, noChunk, joined, told}
-use Rattle.model.proofs.HistoryLaws.{Same, way-same, step-same, start-same}
+use Rattle.history.specs.History.{History, noHistory, skipBy, Telling, tellTime, tellChange, tell, tellAll}
+use Rattle.model.specs.Model.{Chunk, Model, noModel, modelStep, noChunk, joined, told}
+use Rattle.model.proofs.HistoryLaws.{Same, way-same, skip-same, step-same, start-same}
 use Rattle.model.proofs.ValidLaws as valid
 use Rattle.follow.specs.Answers.{wayAnswer, changeAnswer, modelAnswer}
 use Rattle.follow.proofs.ImageRep.{imageFor}
@@ -33,23 +33,23 @@ use Rattle.follow.proofs.Start.{start-rep}
 
 -- ---- the model's answers are the history's
 
-time-answer : (edition : ℕ) (h : History) (t : ℕ) (w : Way) → wayAnswer w ≡ tellTime edition h t w .answer
-time-answer edition h t above = refl
-time-answer edition h t equal = refl
-time-answer edition h t below = refl
+time-answer : (edition : ℕ) (h : History) (q t : ℕ) (w : Way) → wayAnswer w ≡ tellTime edition h q t w .answer
+time-answer edition h q t above = refl
+time-answer edition h q t equal = refl
+time-answer edition h q t below = refl
 
-change-answer : (h : History) (g : ℕ) (b : Bool) (d : Decoded) → changeAnswer b d ≡ tellChange h g b d .answer
-change-answer h g true d = refl
-change-answer h g false (refuse n) = refl
-change-answer h g false (accept a c) = refl
+change-answer : (h : History) (q g : ℕ) (b : Bool) (d : Decoded) → changeAnswer b d ≡ tellChange h q g b d .answer
+change-answer h q g true d = refl
+change-answer h q g false (refuse n) = refl
+change-answer h q g false (accept a c) = refl
 
 answer-same : (ks : List SignalEncoding) (edition : ℕ) (p : Model) (h : History) (c : Call) (b : Bool) → Same p h → modelAnswer ks p c b ≡ tell ks edition h c b .answer
 unfolding modelAnswer tell
 answer-same ks edition p h c true s = refl
-answer-same ks edition p h (time t) false s = ap wayAnswer (way-same p h t s) ∙ time-answer edition h t (wayOf (h .times) t)
-answer-same ks edition p h (change g v) false s =
+answer-same ks edition p h (time q t) false s = ap wayAnswer (way-same p h t s) ∙ time-answer edition h q t (wayOf (h .times) t)
+answer-same ks edition p h (change q g v) false s =
     let d : Decoded = decode (getD ks g Absent) v in
-    ap (λ (k : ProbeSkip). changeAnswer (k .on) d) (s .skips) ∙ change-answer h g (h .skips .on) d
+    ap (λ (k : ProbeSkip). changeAnswer (k .on) d) (skip-same p h q s) ∙ change-answer h q g (skipBy q (h .skips) .on) d
 answer-same ks edition p h finish false s = refl
 
 -- ---- a run
@@ -97,11 +97,11 @@ start-stands settings m s = record { rep = start-rep settings m s; same = start-
 
 -- ---- a finish that is accepted
 
-pub record Finished (limit : ℕ) (ks : List SignalEncoding) (h : History) (bytes : List ℕ) : Type 0 where
-  pub model : Model
-  pub held : joined noChunk (model .blocks) ≡ told h
-  pub valid : Valid (imageFor limit ks (model .blocks))
-  pub bytes-are : imageBytes (imageFor limit ks (model .blocks)) ≡ bytes
+-- finished blocks, the history that they join to, and the bytes of their image
+pub record Finished (limit : ℕ) (ks : List SignalEncoding) (blocks : List Chunk) (h : History) (bytes : List ℕ) : Type 0 where
+  pub held : joined noChunk blocks ≡ told h
+  pub valid : Valid (imageFor limit ks blocks)
+  pub bytes-are : imageBytes (imageFor limit ks blocks) ≡ bytes
 
 pub image-valid : (settings : Settings) (ks : List SignalEncoding) (m : Memory) (p : Model) → KnownKinds ks
     → BlocksFit (settings .limit) ks none (imageFor (settings .limit) ks (p .blocks) .blocks) → Rep settings ks m p → Valid (imageFor (settings .limit) ks (p .blocks))
@@ -115,19 +115,16 @@ image-valid settings ks m p k f r = record {
 }
 
 pub finish-leaves : (settings : Settings) (ks : List SignalEncoding) (m : Memory) (p : Model) (h : History) (size : ℕ) → KnownKinds ks → Stands settings ks m p h
-    → step m finish .reply ≡ total size → Finished (settings .limit) ks h (take size (step m finish .memory .image))
+    → step m finish .reply ≡ total size → Finished (settings .limit) ks (modelStep ks settings p finish false .blocks) h (take size (step m finish .memory .image))
 finish-leaves settings ks m p h size k s e =
-    let g = step-good settings ks m p finish tt (s .rep) in
     let m' : Memory = step m finish .memory in
-    let t = step-stands settings ks m p h finish tt s in
+    let q : Model = modelStep ks settings p finish false in
     let b : isRefusal (step m finish .reply) ≡ false = ap isRefusal e in
-    let q : Model = modelStep ks settings p finish (isRefusal (step m finish .reply)) in
-    let u = g .sum size e in
+    let t = subst (λ (x : Bool). Stands settings ks m' (modelStep ks settings p finish x) (tell ks (settings .edition) h finish x .next)) b (step-stands settings ks m p h finish tt s) in
+    let u = step-good settings ks m p finish tt (s .rep) .sum size e in
     let shut : q .closed ≡ true = sym (t .rep .closed) ∙ u .1 in
-    let n : tell ks (settings .edition) h finish (isRefusal (step m finish .reply)) .next ≡ h =
-    ap (λ (x : Bool). tell ks (settings .edition) h finish x .next) b ∙ (unfold tell in refl) in
+    let n : tell ks (settings .edition) h finish false .next ≡ h = unfold tell in refl in
     record {
-      model = q;
       held = t .same .shut shut ∙ ap told n;
       valid = image-valid settings ks m' q k (t .good .shut shut) (t .rep);
       bytes-are = sym (t .rep .image .is) ∙ ap (λ (x : ℕ). take x (m' .image)) (sym (u .0));

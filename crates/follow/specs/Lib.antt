@@ -1,3 +1,4 @@
 pub mod Records
 pub mod Marked
 pub mod Answers
+pub mod Replies

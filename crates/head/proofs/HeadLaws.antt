@@ -26,7 +26,7 @@ unfolding kindsPut
 kinds-none rs i = refl
 
 pub kinds-next : (n : ℕ) (rs : List SignalRecord) (i : List ℕ)
-    → kindsPut (n + 1) rs i ≡ kindPut n (getD rs n (recordOf Absent 0 Two)) (kindsPut n rs i)
+    → kindsPut (n + 1) rs i ≡ kindPut n (getD rs n (recordOf Absent 0 Two 0)) (kindsPut n rs i)
 unfolding kindsPut
 kinds-next n rs i = rw (add-one n) refl
 
@@ -34,7 +34,7 @@ pub kinds-length : (n : ℕ) (rs : List SignalRecord) (i : List ℕ) → length 
 unfolding kindsPut
 kinds-length zero rs i = refl
 kinds-length (suc n) rs i =
-    length-sets (kindsPut n rs i) (16 + 4 * n) (le 4 (kindNumber (getD rs n (recordOf Absent 0 Two) .kind))) ∙ kinds-length n rs i
+    length-sets (kindsPut n rs i) (16 + 4 * n) (le 4 (kindNumber (getD rs n (recordOf Absent 0 Two 0) .kind))) ∙ kinds-length n rs i
 
 -- ---- all of them
 
@@ -47,9 +47,9 @@ unfolding kindBytes les
 bytes-none = refl
 
 bytes-next : (n : ℕ) (rs : List SignalRecord) → n < length rs
-    → kindBytes (drop n rs) ≡ le 4 (kindNumber (getD rs n (recordOf Absent 0 Two) .kind)) ++ kindBytes (drop (suc n) rs)
+    → kindBytes (drop n rs) ≡ le 4 (kindNumber (getD rs n (recordOf Absent 0 Two 0) .kind)) ++ kindBytes (drop (suc n) rs)
 unfolding kindBytes les
-bytes-next n rs h = rw (drop-cons rs n (recordOf Absent 0 Two) h) refl
+bytes-next n rs h = rw (drop-cons rs n (recordOf Absent 0 Two 0) h) refl
 
 -- the kinds that are left, written, give all of them written
 left : (n : ℕ) (rs : List SignalRecord) (i : List ℕ) → n ≤ length rs
@@ -57,7 +57,7 @@ left : (n : ℕ) (rs : List SignalRecord) (i : List ℕ) → n ≤ length rs
 unfolding kindsPut
 left zero rs i h = refl
 left (suc n) rs i h =
-    let r : ℕ = kindNumber (getD rs n (recordOf Absent 0 Two) .kind) in
+    let r : ℕ = kindNumber (getD rs n (recordOf Absent 0 Two 0) .kind) in
     let x : List ℕ = kindsPut n rs i in
     let rest : List ℕ = kindBytes (drop (suc n) rs) in
     let p : 16 + 4 * suc n ≡ 16 + 4 * n + length (le 4 r) = rw (length-le 4 r) (omega arith) in

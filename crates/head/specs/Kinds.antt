@@ -22,7 +22,7 @@ kindPut g r i = sets i (kindPlace g) (le 4 (kindNumber (r .kind)))
 -- the kinds of the first n records, the image after n turns of a loop over them
 unfoldable pub kindsPut : (n : ℕ) → List SignalRecord → List ℕ → List ℕ
 kindsPut zero rs i = i
-kindsPut (suc n) rs i = kindPut n (getD rs n (recordOf Absent 0 Two)) (kindsPut n rs i)
+kindsPut (suc n) rs i = kindPut n (getD rs n (recordOf Absent 0 Two 0)) (kindsPut n rs i)
 
 -- what keeps the turns inside the image
 pub record KindsFit (n : ℕ) (rs : List SignalRecord) (image : List ℕ) : Type 0 where

@@ -7,14 +7,14 @@ use Rattle.lists.specs.Last.{lastOr}
 use Rattle.lists.specs.Same.{same}
 use Rattle.signal.specs.Content.{Content, symbols, happened}
 use Rattle.stream.specs.Entries.{entry}
-use Rattle.history.specs.History.{Change, History, history, listOf, keptAfter, kept, keptOf, topOf, classOf, noSkip}
+use Rattle.history.specs.History.{Change, History, history, listOf, keptAfter, kept, keptOf, topOf, classOf, allOff}
 use Rattle.history.specs.Followed.{placedFrom, followed}
 
 abbrev at : (place signal : ℕ) → Content → (class : ℕ) → Change
 at p g a c = record { signal = g; place = p; content = a; class = c }
 
 abbrev of : List ℕ → List Change → History
-of ts cs = history ts cs noSkip
+of ts cs = history ts cs allOff
 
 -- times 1 and 5: "1" to signal 0 at 1, raw 11 with the claim 2 to signal 1 at 5
 abbrev first : History

@@ -7,7 +7,7 @@ use lib.ListN.{length, drop}
 use lib.Dec.{eqb}
 use Rattle.lists.specs.Choice.{pick}
 use Rattle.lists.specs.Last.{lastOr}
-use Rattle.history.specs.History.{Change, History, history, noSkip}
+use Rattle.history.specs.History.{Change, History, history, allOff}
 
 -- the second starts at the time that ends the first
 abbrev pub meets : (first second : List ℕ) → Bool
@@ -28,7 +28,7 @@ unfoldable pub placedFrom : (n : ℕ) → List Change → List Change
 placedFrom n [] = []
 placedFrom n (c ∷ cs) = record { signal = c .signal; place = n + c .place; content = c .content; class = c .class } ∷ placedFrom n cs
 
--- the first's changes, then the second's, each at its own time. An image tells nothing of a skip or a count: off, 0
+-- the first's changes, then the second's, each at its own time. An image tells nothing of skips and counts: off, 0
 abbrev pub followed : (first second : History) → History
 followed h k =
-    history (timesAfter (h .times) (k .times)) (h .changes ++ placedFrom (startAfter (h .times) (k .times)) (k .changes)) noSkip
+    history (timesAfter (h .times) (k .times)) (h .changes ++ placedFrom (startAfter (h .times) (k .times)) (k .changes)) allOff

@@ -46,7 +46,7 @@ pub extern "C" fn wejumo_start(
     outcome_numbers(state, done)
 }
 
-// A time.
+// A time from a probe.
 #[no_mangle]
 pub extern "C" fn wejumo_time_change(
     state: StateNumbers,
@@ -54,17 +54,18 @@ pub extern "C" fn wejumo_time_change(
     times: &mut [u64],
     work: &[u8],
     image: &mut [u8],
+    sender: u32,
     time: u64,
 ) -> OutcomeNumbers
     ensures { λ r. ⌜ told r (recordsOf (now (records .exit))) (now (times .exit)) (now (work .entry)) (now (image .exit))
-        ≡ toldOf state (timeOf (memory (stateFrom state) (recordsOf (now (records .entry))) (now (times .entry)) (now (work .entry)) (now (image .entry))) time) ⌝ }
+        ≡ toldOf state (timeOf (memory (stateFrom state) (recordsOf (now (records .entry))) (now (times .entry)) (now (work .entry)) (now (image .entry))) sender time) ⌝ }
 {
-    let stamp = Stamp { time };
+    let stamp = Stamp { sender, time };
     let done = time_change(state_from(state), records, times, work, image, stamp);
     outcome_numbers(state, done)
 }
 
-// A VCD value of a signal.
+// A VCD value of a signal, from a probe.
 #[no_mangle]
 pub extern "C" fn wejumo_vcd_value_change(
     state: StateNumbers,
@@ -72,13 +73,15 @@ pub extern "C" fn wejumo_vcd_value_change(
     times: &[u64],
     work: &mut [u8],
     image: &[u8],
+    sender: u32,
     signal: u32,
     value: &[u8],
 ) -> OutcomeNumbers
     ensures { λ r. ⌜ told r (recordsOf (now (records .exit))) (now (times .entry)) (now (work .exit)) (now (image .entry))
-        ≡ toldOf state (changeOf (memory (stateFrom state) (recordsOf (now (records .entry))) (now (times .entry)) (now (work .entry)) (now (image .entry))) signal (vcd (now (value .entry)))) ⌝ }
+        ≡ toldOf state (changeOf (memory (stateFrom state) (recordsOf (now (records .entry))) (now (times .entry)) (now (work .entry)) (now (image .entry))) sender signal (vcd (now (value .entry)))) ⌝ }
 {
     let target = Target {
+        sender,
         signal: SignalRef(signal),
     };
     let done = vcd_value_change(
@@ -93,7 +96,7 @@ pub extern "C" fn wejumo_vcd_value_change(
     outcome_numbers(state, done)
 }
 
-// A raw value of a signal, with the class that it claims.
+// A raw value of a signal, with the class that it claims, from a probe.
 #[no_mangle]
 pub extern "C" fn wejumo_raw_value_change(
     state: StateNumbers,
@@ -101,15 +104,17 @@ pub extern "C" fn wejumo_raw_value_change(
     times: &[u64],
     work: &mut [u8],
     image: &[u8],
+    sender: u32,
     signal: u32,
     claim: u32,
     value: &[u8],
 ) -> OutcomeNumbers
     ensures { λ r. ⌜ told r (recordsOf (now (records .exit))) (now (times .entry)) (now (work .exit)) (now (image .entry))
-        ≡ toldOf state (changeOf (memory (stateFrom state) (recordsOf (now (records .entry))) (now (times .entry)) (now (work .entry)) (now (image .entry))) signal
+        ≡ toldOf state (changeOf (memory (stateFrom state) (recordsOf (now (records .entry))) (now (times .entry)) (now (work .entry)) (now (image .entry))) sender signal
         (raw claim (now (value .entry)))) ⌝ }
 {
     let target = Target {
+        sender,
         signal: SignalRef(signal),
     };
     let done = raw_value_change(
@@ -125,7 +130,7 @@ pub extern "C" fn wejumo_raw_value_change(
     outcome_numbers(state, done)
 }
 
-// A real of a signal, by the 64 bits of its f64.
+// A real of a signal, by the 64 bits of its f64, from a probe.
 #[no_mangle]
 pub extern "C" fn wejumo_real_change(
     state: StateNumbers,
@@ -133,13 +138,15 @@ pub extern "C" fn wejumo_real_change(
     times: &[u64],
     work: &mut [u8],
     image: &[u8],
+    sender: u32,
     signal: u32,
     bits: u64,
 ) -> OutcomeNumbers
     ensures { λ r. ⌜ told r (recordsOf (now (records .exit))) (now (times .entry)) (now (work .exit)) (now (image .entry))
-        ≡ toldOf state (changeOf (memory (stateFrom state) (recordsOf (now (records .entry))) (now (times .entry)) (now (work .entry)) (now (image .entry))) signal (real bits)) ⌝ }
+        ≡ toldOf state (changeOf (memory (stateFrom state) (recordsOf (now (records .entry))) (now (times .entry)) (now (work .entry)) (now (image .entry))) sender signal (real bits)) ⌝ }
 {
     let target = Target {
+        sender,
         signal: SignalRef(signal),
     };
     let done = real_change(state_from(state), records, times, work, image, target, bits);

@@ -30,7 +30,7 @@ flag-same n = flag-same-by n (eqb n 0) refl
 -- a refused call hands back the numbers that it got
 pub state-same : (s : StateNumbers) → stateAfter s (stateFrom s) ≡ s
 unfolding stateFrom stateAfter
-state-same s = rw (flag-same (s .closed), flag-same (s .skip)) refl
+state-same s = rw (flag-same (s .closed), flag-same (s .skip), flag-same (s .«skip_1»)) refl
 
 -- by whether the number was 0
 flag-on-by : (n : ℕ) (t : Bool) → eqb n 0 ≡ t → flagFrom (flagAfter n true) ≡ true
@@ -44,4 +44,4 @@ flag-back n false = refl
 -- what a call hands back is read by the next one as the state after it
 pub state-back : (s : StateNumbers) (e : Encoder) → stateFrom (stateAfter s e) ≡ e
 unfolding stateFrom stateAfter
-state-back s e = rw (flag-back (s .closed) (e .closed), flag-back (s .skip) (e .skips .on)) refl
+state-back s e = rw (flag-back (s .closed) (e .closed), flag-back (s .skip) (e .skips .zero .on), flag-back (s .«skip_1») (e .skips .one .on)) refl

@@ -7,7 +7,7 @@ use mathlib.Core.Bool.{Bool, not}
 use lib.Dec.{eqb}
 use Rattle.lists.specs.Choice.{pick}
 use Rattle.recording.specs.declared.Encoder.{Encoder}
-use Rattle.recording.specs.State.{probeSkip}
+use Rattle.recording.specs.State.{probeSkip, bothSkips}
 use Rattle.interface_state.specs.declared.StateNumbers.{StateNumbers}
 
 abbrev pub flagFrom : ℕ → Bool
@@ -28,7 +28,7 @@ stateFrom s =
       image = s .image;
       blocks = s .blocks;
       edition = s .edition;
-      skips = probeSkip (flagFrom (s .skip)) (s .skipped);
+      skips = bothSkips (probeSkip (flagFrom (s .skip)) (s .skipped)) (probeSkip (flagFrom (s .«skip_1»)) (s .«skipped_1»));
     }
 
 -- the numbers of the state after a call that got numbers s
@@ -42,7 +42,9 @@ stateAfter s e =
       work = e .work;
       image = e .image;
       blocks = e .blocks;
-      skip = flagAfter (s .skip) (e .skips .on);
-      skipped = e .skips .count;
+      skip = flagAfter (s .skip) (e .skips .zero .on);
+      skipped = e .skips .zero .count;
       edition = e .edition;
+      «skip_1» = flagAfter (s .«skip_1») (e .skips .one .on);
+      «skipped_1» = e .skips .one .count;
     }

@@ -1,11 +1,12 @@
 // The state of a recording as numbers, for crate interface: `StateNumbers` crosses by value. The contracts cite specs/State.antt.
 use recording::Encoder;
 use recording::ProbeSkip;
+use recording::Skips;
 ghost use mathlib.Core.Path.{_≡_};
 ghost use Rattle.interface_state.specs.State.{flagAfter, stateFrom, stateAfter};
 
-// The fields of `Encoder`; those that it was given later stand last, so that no offset moves. `closed` and `skip` are off at 0 and on at every
-// other number.
+// The fields of `Encoder`; those that it was given later stand last, so that no offset moves. `skip` and `skipped` are probe 0's, `skip_1` and
+// `skipped_1` probe 1's. `closed`, `skip` and `skip_1` are off at 0 and on at every other number.
 #[repr(C)]
 pub struct StateNumbers {
     pub closed: u32,
@@ -18,12 +19,22 @@ pub struct StateNumbers {
     pub skip: u32,
     pub skipped: u32,
     pub edition: u32,
+    pub skip_1: u32,
+    pub skipped_1: u32,
 }
 
 // The recording that a caller's numbers say.
 pub fn state_from(state: StateNumbers) -> Encoder
     ensures { λ r. ⌜ r ≡ stateFrom state ⌝ }
 {
+    let zero = ProbeSkip {
+        on: state.skip != 0,
+        count: state.skipped,
+    };
+    let one = ProbeSkip {
+        on: state.skip_1 != 0,
+        count: state.skipped_1,
+    };
     Encoder {
         closed: state.closed != 0,
         limit: state.limit,
@@ -33,10 +44,7 @@ pub fn state_from(state: StateNumbers) -> Encoder
         image: state.image,
         blocks: state.blocks,
         edition: state.edition,
-        skips: ProbeSkip {
-            on: state.skip != 0,
-            count: state.skipped,
-        },
+        skips: Skips { zero, one },
     }
 }
 
@@ -57,6 +65,8 @@ fn flag_after(before: u32, on: bool) -> u32
 pub fn state_after(before: StateNumbers, state: Encoder) -> StateNumbers
     ensures { λ r. ⌜ r ≡ stateAfter before state ⌝ }
 {
+    let zero = state.skips.zero;
+    let one = state.skips.one;
     StateNumbers {
         closed: flag_after(before.closed, state.closed),
         limit: state.limit,
@@ -65,8 +75,10 @@ pub fn state_after(before: StateNumbers, state: Encoder) -> StateNumbers
         work: state.work,
         image: state.image,
         blocks: state.blocks,
-        skip: flag_after(before.skip, state.skips.on),
-        skipped: state.skips.count,
+        skip: flag_after(before.skip, zero.on),
+        skipped: zero.count,
         edition: state.edition,
+        skip_1: flag_after(before.skip_1, one.on),
+        skipped_1: one.count,
     }
 }

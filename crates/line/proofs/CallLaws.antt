@@ -15,7 +15,7 @@ use Rattle.digits.specs.declared.Number.{Number}
 use Rattle.digits.specs.declared.Number32.{Number32}
 use Rattle.digits.specs.Value.{valueIn, valueIn32}
 use Rattle.line.specs.Words.{word}
-use Rattle.line.specs.Line.{number32, nothing, finish, notUnderstood, lendOf, editionOf, startOf, timeOf, vcdOf, rawOf, realOf, changeOf, callOf, lineOf}
+use Rattle.line.specs.Line.{number32, nothing, finish, notUnderstood, lendOf, editionOf, probesOf, senderOf, startOf, timeOf, vcdOf, rawOf, realOf, changeOf, choiceOf, callOf, lineOf}
 
 module _ (l : List ℕ) where
   -- the first word is none of the names before
@@ -23,23 +23,36 @@ module _ (l : List ℕ) where
   unfolding callOf
   call-lend a = rw a refl
 
-  pub call-edition : same (word 0 l) (ascii "lend") ≡ false → same (word 0 l) (ascii "edition") ≡ true → callOf l ≡ editionOf l
+  pub call-start : same (word 0 l) (ascii "lend") ≡ false → same (word 0 l) (ascii "start") ≡ true → callOf l ≡ startOf l
   unfolding callOf
-  call-edition a b = rw (a, b) refl
+  call-start a b = rw (a, b) refl
 
-  pub call-start : same (word 0 l) (ascii "lend") ≡ false → same (word 0 l) (ascii "edition") ≡ false → same (word 0 l) (ascii "start") ≡ true → callOf l ≡ startOf l
+  pub call-time : same (word 0 l) (ascii "lend") ≡ false → same (word 0 l) (ascii "start") ≡ false → same (word 0 l) (ascii "time") ≡ true → callOf l ≡ timeOf l
   unfolding callOf
-  call-start a b d = rw (a, b, d) refl
+  call-time a b d = rw (a, b, d) refl
 
-  pub call-time : same (word 0 l) (ascii "lend") ≡ false → same (word 0 l) (ascii "edition") ≡ false
-      → same (word 0 l) (ascii "start") ≡ false → same (word 0 l) (ascii "time") ≡ true → callOf l ≡ timeOf l
+  pub call-choice : same (word 0 l) (ascii "lend") ≡ false → same (word 0 l) (ascii "start") ≡ false → same (word 0 l) (ascii "time") ≡ false → callOf l ≡ choiceOf l
   unfolding callOf
-  call-time a b d e = rw (a, b, d, e) refl
+  call-choice a b d = rw (a, b, d) refl
 
-  pub call-change : same (word 0 l) (ascii "lend") ≡ false → same (word 0 l) (ascii "edition") ≡ false
-      → same (word 0 l) (ascii "start") ≡ false → same (word 0 l) (ascii "time") ≡ false → callOf l ≡ changeOf l
-  unfolding callOf
-  call-change a b d e = rw (a, b, d, e) refl
+  -- so for the choices
+  pub choice-edition : same (word 0 l) (ascii "edition") ≡ true → choiceOf l ≡ editionOf l
+  unfolding choiceOf
+  choice-edition a = rw a refl
+
+  pub choice-probes : same (word 0 l) (ascii "edition") ≡ false → same (word 0 l) (ascii "probes") ≡ true → choiceOf l ≡ probesOf l
+  unfolding choiceOf
+  choice-probes a b = rw (a, b) refl
+
+  pub choice-sender : same (word 0 l) (ascii "edition") ≡ false → same (word 0 l) (ascii "probes") ≡ false
+      → same (word 0 l) (ascii "sender") ≡ true → choiceOf l ≡ senderOf l
+  unfolding choiceOf
+  choice-sender a b d = rw (a, b, d) refl
+
+  pub choice-change : same (word 0 l) (ascii "edition") ≡ false → same (word 0 l) (ascii "probes") ≡ false
+      → same (word 0 l) (ascii "sender") ≡ false → choiceOf l ≡ changeOf l
+  unfolding choiceOf
+  choice-change a b d = rw (a, b, d) refl
 
   -- so for the changes
   pub change-vcd : same (word 0 l) (ascii "vcd") ≡ true → changeOf l ≡ vcdOf l

@@ -8,9 +8,9 @@ use Rattle.lists.specs.Same.{same}
 use Rattle.ascii.specs.Ascii.{ascii}
 use Rattle.signal.specs.declared.kind.SignalEncoding.the-variants.{BitVector, Real, Absent}
 use Rattle.digits.specs.Numbers.{digitOf, digitsFrom, numberOf, numberTo, hexBytes, bitsOf}
-use Rattle.line.specs.Words.{wordOf, pastWord, after, wordsOf}
-use Rattle.line.specs.Line.{Line, nothing, lend, edition, start, time, vcd, raw, real, finish, notUnderstood}
-use Rattle.line.specs.Line.{lendOf, editionOf, kindOf, kindsOf, kindsIn, startOf, timeOf, vcdOf, rawOf, realOf, changeOf, callOf, lineOf}
+use Rattle.line.specs.Words.{wordOf, pastWord, after, wordsOf, eachOf, eachIn}
+use Rattle.line.specs.Line.{Line, nothing, lend, edition, probes, sender, start, time, vcd, raw, real, finish, notUnderstood}
+use Rattle.line.specs.Line.{lendOf, editionOf, probesOf, senderOf, kindOf, startOf, timeOf, vcdOf, rawOf, realOf, changeOf, choiceOf, callOf, lineOf}
 
 -- lines, each with what it says; a carriage return is a byte of its line
 unfoldable pub understood : List (List ℕ × Line)
@@ -24,6 +24,12 @@ understood =
     ∷ (ascii "edition 0", edition 0)
     ∷ (ascii "edition 4294967295", edition 4294967295)
     ∷ (ascii "edition 002", edition 2)
+    ∷ (ascii "probes", probes [])
+    ∷ (ascii "probes 0 1 001", probes (0 ∷ 1 ∷ 1 ∷ []))
+    ∷ (ascii "probes 256 4294967295", probes (256 ∷ 4294967295 ∷ []))
+    ∷ (ascii "sender 0", sender 0)
+    ∷ (ascii "sender 01", sender 1)
+    ∷ (ascii "sender 4294967295", sender 4294967295)
     ∷ (ascii "start 5 4 1 0 event real absent", start 5 4 (BitVector 1 ∷ BitVector 0 ∷ BitVector 0 ∷ Real ∷ Absent ∷ []))
     ∷ (ascii "start 0 4", start 0 4 [])
     ∷ (ascii "start 3 2 65536 65537 4294967294", start 3 2 (BitVector 65536 ∷ BitVector 65537 ∷ BitVector 65537 ∷ []))
@@ -42,8 +48,8 @@ understood =
     ∷ []
 
 pub all-understood : map (λ (r : List ℕ × Line). lineOf (r .0)) understood ≡ map (λ (r : List ℕ × Line). r .1) understood
-unfolding wordOf pastWord after wordsOf digitOf digitsFrom numberOf numberTo hexBytes bitsOf same lendOf editionOf kindOf kindsOf kindsIn startOf timeOf vcdOf rawOf
-    realOf changeOf callOf lineOf understood
+unfolding wordOf pastWord after wordsOf eachOf eachIn digitOf digitsFrom numberOf numberTo hexBytes bitsOf same lendOf editionOf probesOf senderOf kindOf startOf
+    timeOf vcdOf rawOf realOf changeOf choiceOf callOf lineOf understood
 all-understood = refl
 
 -- lines that are none of these
@@ -63,6 +69,20 @@ strange =
     ∷ ascii "edition 1 "
     ∷ ascii "edition 1 2"
     ∷ ascii "Edition 1"
+    ∷ ascii "probes "
+    ∷ ascii "probes 0 "
+    ∷ ascii "probes  0"
+    ∷ ascii "probes 0  1"
+    ∷ ascii "probes one"
+    ∷ ascii "probes 0 4294967296"
+    ∷ ascii "probe 0"
+    ∷ ascii "sender"
+    ∷ ascii "sender "
+    ∷ ascii "sender 0 "
+    ∷ ascii "sender 0 1"
+    ∷ ascii "sender 4294967296"
+    ∷ ascii "sender -1"
+    ∷ ascii "senders 0"
     ∷ ascii "start"
     ∷ ascii "start 1"
     ∷ ascii "start 1 4 "
@@ -101,6 +121,6 @@ strange =
     ∷ []
 
 pub none-understood : map lineOf strange ≡ replicate (length strange) notUnderstood
-unfolding wordOf pastWord after wordsOf digitOf digitsFrom numberOf numberTo hexBytes bitsOf same lendOf editionOf kindOf kindsOf kindsIn startOf timeOf vcdOf rawOf
-    realOf changeOf callOf lineOf strange
+unfolding wordOf pastWord after wordsOf eachOf eachIn digitOf digitsFrom numberOf numberTo hexBytes bitsOf same lendOf editionOf probesOf senderOf kindOf startOf
+    timeOf vcdOf rawOf realOf changeOf choiceOf callOf lineOf strange
 none-understood = refl

@@ -3,21 +3,22 @@
 use Prim.Native.Nat.{ℕ, min}
 use mathlib.Core.List.{List, [], _∷_}
 use mathlib.Core.Option.{Option, some, none}
-use lib.ListN.{length, drop}
-use lib.Dec.{leb, eqb}
+use lib.Dec.{eqb}
 use Rattle.lists.specs.Choice.{pick, bind}
 use Rattle.lists.specs.Same.{same}
 use Rattle.ascii.specs.Ascii.{ascii}
 use Rattle.signal.specs.declared.kind.SignalEncoding.{SignalEncoding}
 use Rattle.signal.specs.declared.kind.SignalEncoding.the-variants.{BitVector, Real, Absent}
 use Rattle.digits.specs.Numbers.{numberTo, hexBytes, bitsOf}
-use Rattle.line.specs.Words.{after, word, wordsOf}
+use Rattle.line.specs.Words.{after, word, eachIn}
 
 pub data Line : Type 0 where
   -- a comment or an empty line
   nothing : Line
   lend : (times work image : ℕ) → Line
   edition : ℕ → Line
+  probes : List ℕ → Line
+  sender : ℕ → Line
   start : (signals limit : ℕ) → List SignalEncoding → Line
   time : ℕ → Line
   vcd : (signal : ℕ) → (text : List ℕ) → Line
@@ -30,7 +31,7 @@ abbrev pub understood : Option Line → Line
 understood none = notUnderstood
 understood (some l) = l
 
--- edition, signal, claim, S, B and widths have 32 bits
+-- edition, probes, sender, signal, claim, S, B and widths have 32 bits
 abbrev pub number32 : List ℕ → Option ℕ
 number32 w = numberTo 4294967295 w
 
@@ -49,6 +50,20 @@ lendOf l =
 unfoldable pub editionOf : List ℕ → Line
 editionOf l = understood (bind (number32 (after 1 l)) (λ n. some (edition n)))
 
+-- ---- probes P P ...: named by the records of the starts after it, in order
+
+-- the Ps are the words after the first, at most 256; there may be none
+abbrev pub probesIn : List ℕ → Option (List ℕ)
+probesIn l = eachIn number32 1 l
+
+unfoldable pub probesOf : List ℕ → Line
+probesOf l = understood (bind (probesIn l) (λ ps. some (probes ps)))
+
+-- ---- sender N: of the times and changes after it
+
+unfoldable pub senderOf : List ℕ → Line
+senderOf l = understood (bind (number32 (after 1 l)) (λ n. some (sender n)))
+
 -- ---- start S B KIND KIND ...
 
 -- a width, 0 being the event. One over 65,536 is handed to start, which refuses it: as 65,537, since the numbers FFFFFFFE and FFFFFFFF
@@ -63,13 +78,9 @@ kindOf w =
     (pick (same w (ascii "absent")) (some Absent)
     (bind (number32 w) (λ n. some (vector n)))))
 
-unfoldable pub kindsOf : List (List ℕ) → Option (List SignalEncoding)
-kindsOf [] = some []
-kindsOf (w ∷ ws) = bind (kindOf w) (λ k. bind (kindsOf ws) (λ ks. some (k ∷ ks)))
-
--- the KINDs are the words after the third; they are at most 256
-unfoldable pub kindsIn : List ℕ → Option (List SignalEncoding)
-kindsIn l = pick (leb (length (wordsOf l)) 259) (kindsOf (drop 3 (wordsOf l))) none
+-- the KINDs are the words after the third, at most 256
+abbrev pub kindsIn : List ℕ → Option (List SignalEncoding)
+kindsIn l = eachIn kindOf 3 l
 
 unfoldable pub startOf : List ℕ → Line
 startOf l =
@@ -117,14 +128,21 @@ changeOf l =
     (pick (same l (ascii "finish")) finish
     notUnderstood)))
 
--- the first word says which; any other is left to the changes
+-- the first word says what is chosen for lines after it; any other is left to the changes
+unfoldable pub choiceOf : List ℕ → Line
+choiceOf l =
+    pick (same (word 0 l) (ascii "edition")) (editionOf l)
+    (pick (same (word 0 l) (ascii "probes")) (probesOf l)
+    (pick (same (word 0 l) (ascii "sender")) (senderOf l)
+    (changeOf l)))
+
+-- the first word says which; any other is left to the choices
 unfoldable pub callOf : List ℕ → Line
 callOf l =
     pick (same (word 0 l) (ascii "lend")) (lendOf l)
-    (pick (same (word 0 l) (ascii "edition")) (editionOf l)
     (pick (same (word 0 l) (ascii "start")) (startOf l)
     (pick (same (word 0 l) (ascii "time")) (timeOf l)
-    (changeOf l))))
+    (choiceOf l)))
 
 -- an empty line has no byte; a comment has `#` in its first column
 unfoldable pub lineOf : List ℕ → Line

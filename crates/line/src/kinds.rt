@@ -1,4 +1,4 @@
-// The kinds of a start, which are the words of its line after the third, and the records that they become.
+// The kinds of a start, which are the words of its line after the third, and the records that they become with the probes that were named for them.
 use crate::words::count_words;
 use crate::words::spells;
 use crate::words::word;
@@ -10,16 +10,18 @@ use signal::kind::SignalEncoding;
 use storage::put_record;
 use value::states::States;
 ghost use mathlib.Core.Path.{_≡_};
-ghost use mathlib.Core.List.{map};
 ghost use lib.ListN.{length};
 ghost use lib.Seq.{sets};
 ghost use Rattle.lists.specs.Choice.{isSome};
 ghost use Rattle.storage.specs.Storage.{recordsOf};
 ghost use Rattle.line.specs.Line as spec;
-ghost use Rattle.line.specs.Command.{kindInside, kindList, recordFor, putKind};
+ghost use Rattle.line.specs.Command.{kindInside, kindList, probeAt, recordsFor, putKind};
 
 // The least width that no vector has.
 const NO_WIDTH: u32 = 65537;
+
+// The largest number that a record's probe can have; a start refuses it.
+const NO_PROBE: u64 = 255;
 
 // The kind that a word says, or none.
 pub enum MaybeKind {
@@ -85,9 +87,23 @@ pub fn has_kinds(line: &[u8]) -> bool
     true
 }
 
-// Stores the record with which a signal of this kind begins.
-fn put_kind(records: &mut [u64], at: u32, w: &[u8])
-    ensures { λ r. ⌜ recordsOf (now (records .exit)) ≡ putKind (recordsOf (now (records .entry))) at (spec.kindOf (now (w .entry))) ⌝ }
+// The probe at a place, 0 where none is said. One that a record cannot have becomes the largest, which start refuses.
+pub fn probe_at(probes: &[u64], at: usize) -> u8
+    ensures { λ r. ⌜ r ≡ probeAt (now (probes .entry)) at ⌝ }
+{
+    if probes.len() <= at {
+        return 0;
+    }
+    let probe = probes[at];
+    if NO_PROBE < probe {
+        return NO_PROBE as u8;
+    }
+    probe as u8
+}
+
+// Stores the record with which a signal of this kind and probe begins.
+fn put_kind(records: &mut [u64], at: u32, probe: u8, w: &[u8])
+    ensures { λ r. ⌜ recordsOf (now (records .exit)) ≡ putKind (recordsOf (now (records .entry))) at probe (spec.kindOf (now (w .entry))) ⌝ }
 {
     match kind_of(w) {
         MaybeKind::Some(kind) => {
@@ -99,6 +115,7 @@ fn put_kind(records: &mut [u64], at: u32, w: &[u8])
                     kind,
                     index: 0,
                     top,
+                    probe,
                 },
             )
         }
@@ -106,11 +123,11 @@ fn put_kind(records: &mut [u64], at: u32, w: &[u8])
     }
 }
 
-// Writes the records of a start's kinds to the start of records, as far as there is room, and answers how many there are. A line whose
-// kinds are not understood has none.
-pub fn put_kinds(records: &mut [u64], line: &[u8]) -> usize
+// Writes the records of a start's kinds, each with its probe, to the start of records, as far as there is room, and answers how many there are.
+// A line whose kinds are not understood has none.
+pub fn put_kinds(records: &mut [u64], line: &[u8], probes: &[u64]) -> usize
     ensures { λ r. ⌜ (r ≡ length (kindList (now (line .entry))))
-        × (recordsOf (now (records .exit)) ≡ sets (recordsOf (now (records .entry))) 0 (map recordFor (kindList (now (line .entry))))) ⌝ }
+        × (recordsOf (now (records .exit)) ≡ sets (recordsOf (now (records .entry))) 0 (recordsFor (now (probes .entry)) 0 (kindList (now (line .entry))))) ⌝ }
 {
     if !has_kinds(line) {
         return 0;
@@ -119,7 +136,7 @@ pub fn put_kinds(records: &mut [u64], line: &[u8]) -> usize
     let mut at: u32 = 0;
     let mut k = 3;
     while k < n {
-        put_kind(records, at, word(line, k));
+        put_kind(records, at, probe_at(probes, at as usize), word(line, k));
         at += 1;
         k += 1;
     }

@@ -1,10 +1,12 @@
 // Reading one line of a sheet of calls, as waverec takes it. A line is given without its line feed; any bytes are read.
 //
 // `read_line` answers which call the line makes, with its numbers. Of the parts of a line that have no fixed length it answers nothing:
-// `words::after` hands out a VCD value's text, `hex::put_hex` writes a raw value's bytes and `kinds::put_kinds` the records of a start.
+// `words::after` hands out a VCD value's text, `hex::put_hex` writes a raw value's bytes, `probes::put_probes` the probes of a line that names
+// them and `kinds::put_kinds` the records of a start.
 // The contracts cite specs/Line.antt. No public function has a `requires`.
 pub mod hex;
 pub mod kinds;
+pub mod probes;
 pub mod words;
 
 use digits::Number;
@@ -14,11 +16,12 @@ use digits::decimal;
 use digits::decimal_32;
 use hex::is_hex;
 use kinds::has_kinds;
+use probes::has_probes;
 use words::after;
 use words::spells;
 use words::word;
 ghost use mathlib.Core.Path.{_≡_};
-ghost use Rattle.line.specs.Line.{lendOf, editionOf, startOf, timeOf, vcdOf, rawOf, realOf, changeOf, callOf, lineOf};
+ghost use Rattle.line.specs.Line.{lendOf, editionOf, probesOf, senderOf, startOf, timeOf, vcdOf, rawOf, realOf, changeOf, choiceOf, callOf, lineOf};
 ghost use Rattle.line.specs.Command.{shown};
 
 // How many times a line may lend at most, and how many bytes of work and of image.
@@ -34,6 +37,10 @@ pub enum Command {
     Lend(u64, u64, u64),
     // The edition of the skip rule that the starts after it choose.
     Edition(u32),
+    // The probes that the records of the starts after it name.
+    Probes,
+    // The sender of the times and changes after it.
+    Sender(u32),
     // S and B.
     Start(u32, u32),
     Time(u64),
@@ -69,6 +76,26 @@ fn read_edition(line: &[u8]) -> Command
 {
     match decimal_32(after(line, 1)) {
         Number32::Value(edition) => Command::Edition(edition),
+        Number32::None => Command::NotUnderstood,
+    }
+}
+
+// `probes P P ...`.
+fn read_probes(line: &[u8]) -> Command
+    ensures { λ r. ⌜ shown (now (line .entry)) r ≡ probesOf (now (line .entry)) ⌝ }
+{
+    if has_probes(line) {
+        return Command::Probes;
+    }
+    Command::NotUnderstood
+}
+
+// `sender N`.
+fn read_sender(line: &[u8]) -> Command
+    ensures { λ r. ⌜ shown (now (line .entry)) r ≡ senderOf (now (line .entry)) ⌝ }
+{
+    match decimal_32(after(line, 1)) {
+        Number32::Value(sender) => Command::Sender(sender),
         Number32::None => Command::NotUnderstood,
     }
 }
@@ -158,7 +185,24 @@ fn read_change(line: &[u8]) -> Command
     Command::NotUnderstood
 }
 
-// A line that is neither empty nor a comment. The changes are left to a function of their own, so that each proof stays short.
+// A line that chooses something for those after it, or a change.
+fn read_choice(line: &[u8]) -> Command
+    ensures { λ r. ⌜ shown (now (line .entry)) r ≡ choiceOf (now (line .entry)) ⌝ }
+{
+    let name = word(line, 0);
+    if spells(name, b"edition") {
+        return read_edition(line);
+    }
+    if spells(name, b"probes") {
+        return read_probes(line);
+    }
+    if spells(name, b"sender") {
+        return read_sender(line);
+    }
+    read_change(line)
+}
+
+// A line that is neither empty nor a comment. Choices and changes are left to functions of their own, so that each proof stays short.
 fn read_call(line: &[u8]) -> Command
     ensures { λ r. ⌜ shown (now (line .entry)) r ≡ callOf (now (line .entry)) ⌝ }
 {
@@ -166,16 +210,13 @@ fn read_call(line: &[u8]) -> Command
     if spells(name, b"lend") {
         return read_lend(line);
     }
-    if spells(name, b"edition") {
-        return read_edition(line);
-    }
     if spells(name, b"start") {
         return read_start(line);
     }
     if spells(name, b"time") {
         return read_time(line);
     }
-    read_change(line)
+    read_choice(line)
 }
 
 // What a line says.

@@ -1,7 +1,7 @@
 -- The model's blocks, joined, are the history at every moment, and its answers are the history's: a cut changes nothing of what is joined,
 -- a time and a change join it at the right place.
 -- Assumes nothing.
-use Prim.Native.Nat.{ℕ, _+_, _-_, _<_}
+use Prim.Native.Nat.{ℕ, zero, suc, _+_, _-_, _<_}
 use mathlib.Core.Path.{_≡_, refl, sym, ap, _∙_, subst}
 use mathlib.Core.Bool.{Bool, true, false}
 use mathlib.Core.List.{List, [], _∷_, _++_, append-assoc, append-nil}
@@ -16,11 +16,12 @@ use Rattle.signal.specs.declared.kind.SignalEncoding.{SignalEncoding}
 use Rattle.signal.specs.declared.kind.SignalEncoding.the-variants.{Absent}
 use Rattle.signal.specs.Content.{Content, Given, Decoded, refuse, accept, decode}
 use Rattle.codec.specs.Valid.{RisingFrom, Rising}
-use Rattle.recording.specs.Calls.{Call, time, change, finish, Way, above, equal, below, wayOf, counted}
-use Rattle.recording.specs.State.{probeSkip, skipBegun, skipEnded, skipSame, skipCounted}
+use Rattle.recording.specs.Calls.{Call, time, change, finish, Way, above, equal, below, wayOf}
+use Rattle.recording.specs.State.{skipBegun, skipEnded, skipSame, skipCounted, skipOf, withSkip, onSkip}
 use Rattle.recording.specs.declared.ProbeSkip.{ProbeSkip}
 use Rattle.recording.specs.declared.Settings.{Settings}
-use Rattle.history.specs.History.{History, noHistory, skipAtSame, tellTime, tellChange, tell, tellAll}
+use Rattle.recording.specs.declared.Skips.{Skips}
+use Rattle.history.specs.History.{History, noHistory, skipStarted, skipOver, skipAtSame, skipOneMore, skipBy, onlyBy, tellTime, tellChange, tell, tellAll}
 use Rattle.loaded.specs.Loading.{overlap, joinTimes}
 use Rattle.loaded.proofs.TableLaws.{joined-length}
 use Rattle.model.specs.Model.{Chunk, chunk, noChunk, shifts, join, joined, Model, model, noModel, cut, timed, modelTime, modelChange, close, noTime, modelStep, told}
@@ -70,15 +71,46 @@ join-times : (l b : Chunk) → join l b .times ≡ joinTimes (l .times) (b .time
 unfolding join
 join-times l b = refl
 
-all-cut : (p : Model) (ts : List ℕ) (k : ProbeSkip) (c : Bool) → 0 < length (p .now .times)
+all-cut : (p : Model) (ts : List ℕ) (k : Skips) (c : Bool) → 0 < length (p .now .times)
     → all (model (p .blocks ++ p .now ∷ []) (chunk (lastOr 0 (p .now .times) ∷ ts) []) k c) ≡ chunk (all p .times ++ ts) (all p .changes)
 unfolding joined
 all-cut p ts k c h = rw joined-append (add-cut (joined noChunk (p .blocks)) (p .now) ts h)
 
-all-timed : (p : Model) (t : ℕ) (b : Bool) → 0 < length (p .now .times) → all (timed (pick b (cut p) p) t) ≡ chunk (all p .times ++ t ∷ []) (all p .changes)
+all-timed : (p : Model) (q t : ℕ) (b : Bool) → 0 < length (p .now .times) → all (timed (pick b (cut p) p) q t) ≡ chunk (all p .times ++ t ∷ []) (all p .changes)
 unfolding cut
-all-timed p t true h = all-cut p (t ∷ []) (skipEnded (p .skips)) (p .closed) h
-all-timed p t false h = add-time (joined noChunk (p .blocks)) (p .now) t h
+all-timed p q t true h = all-cut p (t ∷ []) (onSkip skipEnded (p .skips) q) (p .closed) h
+all-timed p q t false h = add-time (joined noChunk (p .blocks)) (p .now) t h
+
+-- ---- the skips: the recorder's and the history's rule say the same
+
+skip-by : (s : Skips) (q : ℕ) → skipOf s q ≡ skipBy q s
+unfolding skipOf
+skip-by s zero = refl
+skip-by s (suc q) = rw (ne-eqb (suc q) 0 (λ e. omega arith)) refl
+
+only-by : (f g : ProbeSkip → ProbeSkip) → ((k : ProbeSkip) → f k ≡ g k) → (s : Skips) (q : ℕ) → onSkip f s q ≡ onlyBy q g s
+unfolding skipOf withSkip
+only-by f g e s zero = rw (e (s .zero)) refl
+only-by f g e s (suc q) = rw (ne-eqb (suc q) 0 (λ z. omega arith), e (s .one)) refl
+
+pub skip-same : (p : Model) (h : History) (q : ℕ) → Same p h → skipOf (p .skips) q ≡ skipBy q (h .skips)
+skip-same p h q s = skip-by (p .skips) q ∙ ap (skipBy q) (s .skips)
+
+ended-over : (k : ProbeSkip) → skipEnded k ≡ skipOver k
+unfolding skipEnded
+ended-over k = refl
+
+begun-started : (k : ProbeSkip) → skipBegun k ≡ skipStarted k
+unfolding skipBegun
+begun-started k = refl
+
+same-at-same : (e : ℕ) (k : ProbeSkip) → skipSame e k ≡ skipAtSame e k
+unfolding skipSame skipEnded
+same-at-same e k = refl
+
+counted-one-more : (k : ProbeSkip) → skipCounted k ≡ skipOneMore k
+unfolding skipCounted
+counted-one-more k = refl
 
 -- ---- a time
 
@@ -113,13 +145,15 @@ unfolding cut
 never p true e f = let z : _≡_ {A = ℕ} 0 1 = cc in absurd (omega arith)
 never p false e f = let z : _≡_ {A = ℕ} 0 1 = cc in absurd (omega arith)
 
-time-same : (settings : Settings) (p : Model) (h : History) (t : ℕ) (way : Way) → 0 < settings .limit → p .closed ≡ false → Same p h
-    → Same (modelTime settings p t way) (tellTime (settings .edition) h t way .next)
-unfolding modelTime skipBegun skipEnded skipSame
-time-same settings p h t above pos up s =
+time-same : (settings : Settings) (p : Model) (h : History) (q t : ℕ) (way : Way) → 0 < settings .limit → p .closed ≡ false → Same p h
+    → Same (modelTime settings p q t way) (tellTime (settings .edition) h q t way .next)
+unfolding modelTime
+time-same settings p h q t above pos up s =
     record {
       held = go (ℕ-discrete (length (p .now .times)) 0);
-      skips = ap (λ (k : ProbeSkip). probeSkip false (k .count)) (pick-skips p (eqb (length (p .now .times)) (settings .limit)) ∙ s .skips);
+      skips =
+          ap (λ (k : Skips). onSkip skipEnded k q) (pick-skips p (eqb (length (p .now .times)) (settings .limit)) ∙ s .skips)
+          ∙ only-by skipEnded skipOver ended-over (h .skips) q;
       first = λ e. absurd (omega (arith, simp length-append at e));
       shut = never p (eqb (length (p .now .times)) (settings .limit)) up;
     }
@@ -127,26 +161,33 @@ time-same settings p h t above pos up s =
     b : Bool
     b = eqb (length (p .now .times)) (settings .limit)
 
-    go : Dec (length (p .now .times) ≡ 0) → all (timed (pick b (cut p) p) t) ≡ chunk (h .times ++ t ∷ []) (h .changes)
+    go : Dec (length (p .now .times) ≡ 0) → all (timed (pick b (cut p) p) q t) ≡ chunk (h .times ++ t ∷ []) (h .changes)
     go (yes e) =
-        let ne : length (p .now .times) ≡ settings .limit → ⊥ = λ q. omega arith in
+        let ne : length (p .now .times) ≡ settings .limit → ⊥ = λ z. omega arith in
         let nb : b ≡ false = ne-eqb (length (p .now .times)) (settings .limit) ne in
         let a : chunk (p .now .times) (shifts 0 (p .now .changes)) ≡ told h = sym (all-none p (s .first e .0)) ∙ s .held in
-        rw nb (all-none (timed p t) (s .first e .0) ∙ ap (λ (x : Chunk). chunk (x .times ++ t ∷ []) (x .changes)) a)
+        rw nb (all-none (timed p q t) (s .first e .0) ∙ ap (λ (x : Chunk). chunk (x .times ++ t ∷ []) (x .changes)) a)
     go (no n) =
         let k : 0 < length (p .now .times) = omega arith in
-        all-timed p t b k ∙ ap (λ (x : Chunk). chunk (x .times ++ t ∷ []) (x .changes)) (s .held)
-time-same settings p h t equal pos up s = record { held = s .held; skips = ap (skipAtSame (settings .edition)) (s .skips); first = s .first; shut = s .shut }
-time-same settings p h t below pos up s = record { held = s .held; skips = ap (λ (k : ProbeSkip). probeSkip true (k .count)) (s .skips); first = s .first; shut = s .shut }
+        all-timed p q t b k ∙ ap (λ (x : Chunk). chunk (x .times ++ t ∷ []) (x .changes)) (s .held)
+time-same settings p h q t equal pos up s =
+    let e : ℕ = settings .edition in
+    let k = ap (λ (k : Skips). onSkip (skipSame e) k q) (s .skips) ∙ only-by (skipSame e) (skipAtSame e) (same-at-same e) (h .skips) q in
+    record { held = s .held; skips = k; first = s .first; shut = s .shut }
+time-same settings p h q t below pos up s =
+    let k = ap (λ (k : Skips). onSkip skipBegun k q) (s .skips) ∙ only-by skipBegun skipStarted begun-started (h .skips) q in
+    record { held = s .held; skips = k; first = s .first; shut = s .shut }
 
 -- ---- a change, a finish
 
-change-same : (p : Model) (h : History) (g : ℕ) (b : Bool) (d : Decoded) → 0 < length (p .now .times) → p .closed ≡ false → Same p h
-    → Same (modelChange p g b d) (tellChange h g b d .next)
-unfolding modelChange skipCounted
-change-same p h g true d k up s = record { held = s .held; skips = ap (λ (n : ProbeSkip). probeSkip (n .on) (counted (n .count))) (s .skips); first = s .first; shut = s .shut }
-change-same p h g false (refuse n) k up s = s
-change-same p h g false (accept a c) k up s =
+change-same : (p : Model) (h : History) (q g : ℕ) (b : Bool) (d : Decoded) → 0 < length (p .now .times) → p .closed ≡ false → Same p h
+    → Same (modelChange p q g b d) (tellChange h q g b d .next)
+unfolding modelChange
+change-same p h q g true d k up s =
+    let n = ap (λ (n : Skips). onSkip skipCounted n q) (s .skips) ∙ only-by skipCounted skipOneMore counted-one-more (h .skips) q in
+    record { held = s .held; skips = n; first = s .first; shut = s .shut }
+change-same p h q g false (refuse n) k up s = s
+change-same p h q g false (accept a c) k up s =
     record {
       held =
           add-change (joined noChunk (p .blocks)) (p .now) g a c k
@@ -177,16 +218,17 @@ close-same p h s = go (p .now .times) refl
 -- ---- one call: a call that is not refused meets an open recording, and a change that is not refused has a time before it
 
 pub step-same : (ks : List SignalEncoding) (settings : Settings) (p : Model) (h : History) (c : Call) (refused : Bool) → 0 < settings .limit
-    → (refused ≡ false → p .closed ≡ false) → (refused ≡ false → (g : ℕ) (v : Given) → c ≡ change g v → 0 < length (p .now .times)) → Same p h
+    → (refused ≡ false → p .closed ≡ false) → (refused ≡ false → (q g : ℕ) (v : Given) → c ≡ change q g v → 0 < length (p .now .times)) → Same p h
     → Same (modelStep ks settings p c refused) (tell ks (settings .edition) h c refused .next)
 unfolding modelStep tell
 step-same ks settings p h c true pos up fine s = s
-step-same ks settings p h (time t) false pos up fine s =
-    subst (λ (w : Way). Same (modelTime settings p t w) (tellTime (settings .edition) h t (wayOf (h .times) t) .next)) (sym (way-same p h t s))
-    (time-same settings p h t (wayOf (h .times) t) pos (up refl) s)
-step-same ks settings p h (change g v) false pos up fine s =
-    subst (λ (k : ProbeSkip). Same (modelChange p g (k .on) (decode (getD ks g Absent) v)) (tellChange h g (h .skips .on) (decode (getD ks g Absent) v) .next)) (sym (s .skips))
-    (change-same p h g (h .skips .on) (decode (getD ks g Absent) v) (fine refl g v refl) (up refl) s)
+step-same ks settings p h (time q t) false pos up fine s =
+    subst (λ (w : Way). Same (modelTime settings p q t w) (tellTime (settings .edition) h q t (wayOf (h .times) t) .next)) (sym (way-same p h t s))
+    (time-same settings p h q t (wayOf (h .times) t) pos (up refl) s)
+step-same ks settings p h (change q g v) false pos up fine s =
+    let d : Decoded = decode (getD ks g Absent) v in
+    subst (λ (k : ProbeSkip). Same (modelChange p q g (k .on) d) (tellChange h q g (skipBy q (h .skips) .on) d .next)) (sym (skip-same p h q s))
+    (change-same p h q g (skipBy q (h .skips) .on) d (fine refl q g v refl) (up refl) s)
 step-same ks settings p h finish false pos up fine s = close-same p h s
 
 pub start-same : Same noModel noHistory
@@ -210,21 +252,21 @@ way-rising (x ∷ l) t e r = rising-snoc x l t (ltb-true (lastOr x l) t (go (ltb
     go false true q = let z : _≡_ {A = ℕ} 0 1 = cc in absurd (omega arith)
     go false false q = let z : _≡_ {A = ℕ} 0 1 = cc in absurd (omega arith)
 
-time-rising : (edition : ℕ) (h : History) (t : ℕ) (w : Way) → wayOf (h .times) t ≡ w → Rising (h .times) → Rising (tellTime edition h t w .next .times)
-time-rising edition h t above e r = way-rising (h .times) t e r
-time-rising edition h t equal e r = r
-time-rising edition h t below e r = r
+time-rising : (edition : ℕ) (h : History) (q t : ℕ) (w : Way) → wayOf (h .times) t ≡ w → Rising (h .times) → Rising (tellTime edition h q t w .next .times)
+time-rising edition h q t above e r = way-rising (h .times) t e r
+time-rising edition h q t equal e r = r
+time-rising edition h q t below e r = r
 
-change-rising : (h : History) (g : ℕ) (b : Bool) (d : Decoded) → Rising (h .times) → Rising (tellChange h g b d .next .times)
-change-rising h g true d r = r
-change-rising h g false (refuse n) r = r
-change-rising h g false (accept a c) r = r
+change-rising : (h : History) (q g : ℕ) (b : Bool) (d : Decoded) → Rising (h .times) → Rising (tellChange h q g b d .next .times)
+change-rising h q g true d r = r
+change-rising h q g false (refuse n) r = r
+change-rising h q g false (accept a c) r = r
 
 tell-rising : (ks : List SignalEncoding) (edition : ℕ) (h : History) (c : Call) (b : Bool) → Rising (h .times) → Rising (tell ks edition h c b .next .times)
 unfolding tell
 tell-rising ks edition h c true r = r
-tell-rising ks edition h (time t) false r = time-rising edition h t (wayOf (h .times) t) refl r
-tell-rising ks edition h (change g v) false r = change-rising h g (h .skips .on) (decode (getD ks g Absent) v) r
+tell-rising ks edition h (time q t) false r = time-rising edition h q t (wayOf (h .times) t) refl r
+tell-rising ks edition h (change q g v) false r = change-rising h q g (skipBy q (h .skips) .on) (decode (getD ks g Absent) v) r
 tell-rising ks edition h finish false r = r
 
 pub history-rising : (ks : List SignalEncoding) (edition : ℕ) (cs : List Call) (h : History) (rs : List Bool) → Rising (h .times)

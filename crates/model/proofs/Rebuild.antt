@@ -24,7 +24,7 @@ use Rattle.codec.specs.Valid.{RisingFrom, Rising, EntriesFit, OptionFits, Block
 use Rattle.codec.proofs.Growth.{parts-each, parts-count}
 use Rattle.recording.specs.Calls.{Call, time, change, finish, above, wayOf}
 use Rattle.recording.specs.declared.Settings.{Settings}
-use Rattle.recording.specs.State.{noSkips, skipEnded}
+use Rattle.recording.specs.State.{noSkips, skipEnded, skipOf, withSkip}
 use Rattle.history.specs.History.{Change, listOf, topOf}
 use Rattle.model.specs.Model.{Chunk, chunk, Model, model, noModel, modelTime, modelChange, modelStep, tab, partWith, storedOf, imageOf}
 use Rattle.model.proofs.LoadLaws.{pick-append}
@@ -58,7 +58,7 @@ restOf i (p ∷ ps) = part (p .top) (behind i (p .stream)) ∷ restOf i ps
 module _ (ks : List SignalEncoding) where
   unfoldable pub callsOf : (g t : ℕ) → List Entry → List Call
   callsOf g t [] = []
-  callsOf g t (e ∷ es) = change g (sayOf (getD ks g Absent) t (e .content)) ∷ callsOf g t es
+  callsOf g t (e ∷ es) = change 0 g (sayOf (getD ks g Absent) t (e .content)) ∷ callsOf g t es
 
   unfoldable pub roundCalls : (i g : ℕ) → List (Part (List Entry)) → List Call
   roundCalls i g [] = []
@@ -66,11 +66,11 @@ module _ (ks : List SignalEncoding) where
 
   unfoldable pub blockCalls : (i : ℕ) → List ℕ → List (Part (List Entry)) → List Call
   blockCalls i [] ps = roundCalls i 0 ps
-  blockCalls i (t ∷ ts) ps = roundCalls i 0 ps ++ time t ∷ blockCalls (suc i) ts (restOf i ps)
+  blockCalls i (t ∷ ts) ps = roundCalls i 0 ps ++ time 0 t ∷ blockCalls (suc i) ts (restOf i ps)
 
   unfoldable pub firstCalls : List ℕ → List (Part (List Entry)) → List Call
   firstCalls [] ps = []
-  firstCalls (t ∷ ts) ps = time t ∷ blockCalls 0 ts ps
+  firstCalls (t ∷ ts) ps = time 0 t ∷ blockCalls 0 ts ps
 
   -- of a block, none where there is none
   abbrev pub imageCalls : Option (Block (List Entry)) → List Call
@@ -293,8 +293,9 @@ tab-self (p ∷ ps) d = ap (λ l. p ∷ l) (tab-shift 0 (length ps) (λ (g : ℕ
 
 module _ (settings : Settings) (ks : List SignalEncoding) where
   abbrev pub Proper : Model → Call → Type 0
-  Proper p (time t) = Unit {0}
-  Proper p (change g v) = (p .skips .on ≡ false) × (0 < length (p .now .times)) × ((a : Content) × (c : ℕ) × (decode (getD ks g Absent) v ≡ accept a c))
+  Proper p (time q t) = q ≡ 0
+  Proper p (change q g v) =
+      (q ≡ 0) × (p .skips .zero .on ≡ false) × (0 < length (p .now .times)) × ((a : Content) × (c : ℕ) × (decode (getD ks g Absent) v ≡ accept a c))
   Proper p finish = Unit {0}
 
   unfoldable pub modelRun : Model → List Call → Model
@@ -327,7 +328,7 @@ module _ (settings : Settings) (ks : List SignalEncoding) where
       let ih = takes-append xs ys (modelStep ks settings p x false) q r (record { proper = t .proper .2; run = t .run }) u in
       record { proper = (t .proper .0, t .proper .1, ih .proper); run = ih .run }
 
-  -- a model that is open and not skipping
+  -- a model that is open; no probe is skipping
   abbrev pub live : List Chunk → List ℕ → List Change → Model
   live bs ts cs = model bs (chunk ts cs) noSkips false
 
@@ -357,17 +358,17 @@ module _ (settings : Settings) (ks : List SignalEncoding) where
 
   calls-take : (es : List Entry) (g t i : ℕ) (bs : List Chunk) (ts : List ℕ) (cs : List Change) → length ts ≡ suc i → AllAt i es → Said g t es
       → Takes (live bs ts cs) (callsOf ks g t es) (live bs ts (cs ++ asChanges g t es))
-  unfolding callsOf asChanges modelStep modelChange
+  unfolding callsOf asChanges modelStep modelChange skipOf
   calls-take [] g t i bs ts cs l h s = takes-none (live bs ts cs) (live bs ts (cs ++ [])) (rw append-nil refl)
   calls-take (e ∷ es) g t i bs ts cs l h s =
       let m : length ts - 1 ≡ e .index = omega (arith, h .0) in
       let c : Change = record { signal = g; place = e .index; content = e .content; class = t } in
-      let q : modelChange (live bs ts cs) g false (decode (getD ks g Absent) (sayOf (getD ks g Absent) t (e .content))) ≡ live bs ts (cs ++ c ∷ []) =
-      ap (modelChange (live bs ts cs) g false) (s .0)
+      let q : modelChange (live bs ts cs) 0 g false (decode (getD ks g Absent) (sayOf (getD ks g Absent) t (e .content))) ≡ live bs ts (cs ++ c ∷ []) =
+      ap (modelChange (live bs ts cs) 0 g false) (s .0)
       ∙ ap (λ (n : ℕ). live bs ts (cs ++ record { signal = g; place = n; content = e .content; class = t } ∷ [])) m in
       let ih = calls-take es g t i bs ts (cs ++ c ∷ []) l (h .1) (s .1) in
-      takes-cons (live bs ts cs) (live bs ts (cs ++ c ∷ [])) (live bs ts (cs ++ c ∷ asChanges g t es)) (change g (sayOf (getD ks g Absent) t (e .content))) (callsOf ks g t es)
-      refl (refl, omega arith, (e .content, t, s .0)) q
+      takes-cons (live bs ts cs) (live bs ts (cs ++ c ∷ [])) (live bs ts (cs ++ c ∷ asChanges g t es)) (change 0 g (sayOf (getD ks g Absent) t (e .content))) (callsOf ks g t es)
+      refl (refl, refl, omega arith, (e .content, t, s .0)) q
       (subst (λ (x : List Change). Takes (live bs ts (cs ++ c ∷ [])) (callsOf ks g t es) (live bs ts x)) (append-assoc cs (c ∷ []) (asChanges g t es)) ih)
 
   abbrev SaidAll : (g : ℕ) → List (Part (List Entry)) → Type 0
@@ -394,11 +395,11 @@ module _ (settings : Settings) (ks : List SignalEncoding) where
   way-take (x ∷ ts) t h l = rw (lt-ltb (lastOr x ts) t l) refl
 
   time-take : (bs : List Chunk) (ts : List ℕ) (cs : List Change) (t : ℕ) → 0 < length ts → length ts < settings .limit → lastOr 0 ts < t
-      → modelStep ks settings (live bs ts cs) (time t) false ≡ live bs (ts ++ t ∷ []) cs
-  unfolding modelStep modelTime skipEnded
+      → modelStep ks settings (live bs ts cs) (time 0 t) false ≡ live bs (ts ++ t ∷ []) cs
+  unfolding modelStep modelTime skipEnded skipOf withSkip
   time-take bs ts cs t h l m =
       let n : length ts ≡ settings .limit → ⊥ = λ e. omega arith in
-      ap (modelTime settings (live bs ts cs) t) (way-take ts t h m) ∙ rw (ne-eqb (length ts) (settings .limit) n) refl
+      ap (modelTime settings (live bs ts cs) 0 t) (way-take ts t h m) ∙ rw (ne-eqb (length ts) (settings .limit) n) refl
 
   block-take : (us ts : List ℕ) (i : ℕ) (ps : List (Part (List Entry))) (bs : List Chunk) (cs : List Change) → length ts ≡ suc i → length ts + length us ≤ settings .limit
       → RisingFrom (lastOr 0 ts) us → SaidAll 0 ps → Takes (live bs ts cs) (blockCalls ks i us ps) (live bs (ts ++ us) (cs ++ blockMarks i us ps))
@@ -412,11 +413,11 @@ module _ (settings : Settings) (ks : List SignalEncoding) where
       let ih = block-take us (ts ++ u ∷ []) (suc i) (restOf i ps) bs (cs ++ a) la (omega arith) (subst (λ (x : ℕ). RisingFrom x us) (sym z) (r .1)) more in
       let e1 = append-assoc ts (u ∷ []) us in
       let e2 = append-assoc cs a (blockMarks (suc i) us (restOf i ps)) in
-      let t = takes-cons (live bs ts (cs ++ a)) (live bs (ts ++ u ∷ []) (cs ++ a)) (live bs (ts ++ u ∷ us) (cs ++ (a ++ blockMarks (suc i) us (restOf i ps)))) (time u)
-      (blockCalls ks (suc i) us (restOf i ps)) refl tt (time-take bs ts (cs ++ a) u (omega arith) (omega arith) (r .0))
+      let t = takes-cons (live bs ts (cs ++ a)) (live bs (ts ++ u ∷ []) (cs ++ a)) (live bs (ts ++ u ∷ us) (cs ++ (a ++ blockMarks (suc i) us (restOf i ps)))) (time 0 u)
+      (blockCalls ks (suc i) us (restOf i ps)) refl refl (time-take bs ts (cs ++ a) u (omega arith) (omega arith) (r .0))
       (subst (λ (x : List Change). Takes (live bs (ts ++ u ∷ []) (cs ++ a)) (blockCalls ks (suc i) us (restOf i ps)) (live bs (ts ++ u ∷ us) x)) e2
       (subst (λ (x : List ℕ). Takes (live bs (ts ++ u ∷ []) (cs ++ a)) (blockCalls ks (suc i) us (restOf i ps)) (live bs x ((cs ++ a) ++ blockMarks (suc i) us (restOf i ps)))) e1 ih)) in
-      takes-append (roundCalls ks i 0 ps) (time u ∷ blockCalls ks (suc i) us (restOf i ps)) (live bs ts cs) (live bs ts (cs ++ a)) _ (round-take ps i 0 bs ts cs l s) t
+      takes-append (roundCalls ks i 0 ps) (time 0 u ∷ blockCalls ks (suc i) us (restOf i ps)) (live bs ts cs) (live bs ts (cs ++ a)) _ (round-take ps i 0 bs ts cs l s) t
     where
       last-one : (d u : ℕ) → lastOr d (u ∷ []) ≡ u
       last-one d u = unfold lastOr in refl
@@ -473,11 +474,12 @@ module _ (settings : Settings) (ks : List SignalEncoding) where
 
   first-take : (s : Block (List Entry)) (times : List ℕ) → 0 < settings .limit → 1 ≤ length times → Rising times → length times ≤ settings .limit → SaidAll 0 (bares (s .parts))
       → Takes noModel (firstCalls ks times (bares (s .parts))) (live [] times (blockMarks 0 (drop 1 times) (bares (s .parts))))
-  unfolding firstCalls modelStep modelTime wayOf skipEnded
+  unfolding firstCalls modelStep modelTime wayOf skipEnded skipOf withSkip
   first-take s [] pos one r f v = absurd (omega arith)
   first-take s (t ∷ us) pos one r f v =
       let n : 0 ≡ settings .limit → ⊥ = λ z. omega arith in
-      takes-cons noModel (live [] (t ∷ []) []) (live [] (t ∷ us) (blockMarks 0 us (bares (s .parts)))) (time t) (blockCalls ks 0 us (bares (s .parts))) refl tt (rw (ne-eqb 0 (settings .limit) n) refl)
+      takes-cons noModel (live [] (t ∷ []) []) (live [] (t ∷ us) (blockMarks 0 us (bares (s .parts)))) (time 0 t) (blockCalls ks 0 us (bares (s .parts))) refl refl
+      (rw (ne-eqb 0 (settings .limit) n) refl)
       (block-take us (t ∷ []) 0 (bares (s .parts)) [] [] refl (omega arith) (rises r) v)
     where
       rises : RisingFrom t us → RisingFrom (lastOr 0 (t ∷ [])) us

@@ -22,8 +22,8 @@ use Rattle.codec.specs.Valid.{Rising, EachBelow, EntryFits, EntriesFit, OptionF
 use Rattle.codec.specs.Ends.{endAfter, lastIndex}
 use Rattle.codec.proofs.Growth.{entries-more, entries-wider, each-parts, blocks-join}
 use Rattle.recording.specs.Calls.{Call, time, change, finish, ValueFits, CallFits, Way, above, equal, below, wayOf}
-use Rattle.recording.specs.State.{skipBegun, skipSame, skipCounted}
-use Rattle.recording.specs.declared.ProbeSkip.{ProbeSkip}
+use Rattle.recording.specs.State.{skipBegun, skipSame, skipCounted, skipOf, onSkip}
+use Rattle.recording.specs.declared.Skips.{Skips}
 use Rattle.recording.specs.declared.Settings.{Settings}
 use Rattle.history.specs.History.{Change, listOf, topOf}
 use Rattle.model.specs.Model.{Chunk, Model, model, noModel, cut, timed, modelTime, modelChange, close, noTime, modelStep, tab, partWith, storedOf, imageOf}
@@ -166,9 +166,9 @@ module _ (limit : ℕ) (ks : List SignalEncoding) where
   -- ---- a time
 
   -- in a table that has room
-  timed-well : (p : Model) (t : ℕ) → length (p .now .times) < limit → t < 2 ^ 64 → wayOf (p .now .times) t ≡ above → First p → Well p → Well (timed p t)
+  timed-well : (p : Model) (q t : ℕ) → length (p .now .times) < limit → t < 2 ^ 64 → wayOf (p .now .times) t ≡ above → First p → Well p → Well (timed p q t)
   unfolding imageOf endAfter
-  timed-well p t room small e first w =
+  timed-well p q t room small e first w =
       let ts : List ℕ = p .now .times in
       let n : length (ts ++ t ∷ []) ≡ length ts + 1 = length-append ts (t ∷ []) in
       record {
@@ -194,9 +194,9 @@ module _ (limit : ℕ) (ks : List SignalEncoding) where
           starts-more (End (p .blocks)) (p .now .times) (t ∷ []) h (w .starts h)
 
   -- after a cut
-  cut-well : (p : Model) (t : ℕ) → length (p .now .times) ≡ limit → 2 ≤ limit → t < 2 ^ 64 → wayOf (p .now .times) t ≡ above → Well p → Well (timed (cut p) t)
+  cut-well : (p : Model) (q t : ℕ) → length (p .now .times) ≡ limit → 2 ≤ limit → t < 2 ^ 64 → wayOf (p .now .times) t ≡ above → Well p → Well (timed (cut p) q t)
   unfolding cut listOf
-  cut-well p t e two small a w =
+  cut-well p q t e two small a w =
       let h : 0 < length (p .now .times) = omega arith in
       let last : ℕ = lastOr 0 (p .now .times) in
       let b : Block (List Entry) = storedOf (length ks) (seenOf (p .blocks) ++ p .now .changes) (p .now) in
@@ -214,7 +214,7 @@ module _ (limit : ℕ) (ks : List SignalEncoding) where
             record { entries = tt; most = subst (λ (c : List Change). topOf g c ≤ topLimit (getD ks g Absent)) (sym s) (f .most) };
       }
 
-  skip-well : (p : Model) (k : ProbeSkip) (c : Bool) → Well p → Well (model (p .blocks) (p .now) k c)
+  skip-well : (p : Model) (k : Skips) (c : Bool) → Well p → Well (model (p .blocks) (p .now) k c)
   skip-well p k c w = record { done = w .done; room = w .room; starts = w .starts; rising = w .rising; small = w .small; signals = w .signals }
 
   -- ---- a change
@@ -254,12 +254,12 @@ module _ (limit : ℕ) (ks : List SignalEncoding) where
           let list : listOf g' (cs ++ x ∷ []) ≡ listOf g' cs = list-append g' cs (x ∷ []) ∙ rw q (append-nil (listOf g' cs)) in
           record { entries = rw (top, list) (f .entries); most = rw top (f .most) }
 
-  change-well : (p : Model) (g : ℕ) (b : Bool) (v : Given) (d : Decoded) → GivenFits v → decode (getD ks g Absent) v ≡ d → 0 < length (p .now .times)
-      → Well p → Well (modelChange p g b d)
+  change-well : (p : Model) (q g : ℕ) (b : Bool) (v : Given) (d : Decoded) → GivenFits v → decode (getD ks g Absent) v ≡ d → 0 < length (p .now .times)
+      → Well p → Well (modelChange p q g b d)
   unfolding modelChange
-  change-well p g true v d fit e h w = skip-well p (skipCounted (p .skips)) (p .closed) w
-  change-well p g false v (refuse n) fit e h w = w
-  change-well p g false v (accept a c) fit e h w = record {
+  change-well p q g true v d fit e h w = skip-well p (onSkip skipCounted (p .skips) q) (p .closed) w
+  change-well p q g false v (refuse n) fit e h w = w
+  change-well p q g false v (accept a c) fit e h w = record {
     done = w .done;
     room = w .room;
     starts = w .starts;
@@ -295,58 +295,58 @@ pub record Good (limit : ℕ) (ks : List SignalEncoding) (p : Model) : Type 0 wh
 good-open : (limit : ℕ) (ks : List SignalEncoding) (p : Model) → p .closed ≡ false → Well limit ks p → Good limit ks p
 good-open limit ks p e w = record { well = λ q. w; shut = λ q. let z : _≡_ {A = ℕ} 0 1 = cc in absurd (omega arith) }
 
-time-well : (settings : Settings) (ks : List SignalEncoding) (p : Model) (t : ℕ) (way : Way) → 2 ≤ settings .limit → t < 2 ^ 64 → wayOf (p .now .times) t ≡ way
-    → First (settings .limit) ks p → Well (settings .limit) ks p → Well (settings .limit) ks (modelTime settings p t way)
+time-well : (settings : Settings) (ks : List SignalEncoding) (p : Model) (q t : ℕ) (way : Way) → 2 ≤ settings .limit → t < 2 ^ 64 → wayOf (p .now .times) t ≡ way
+    → First (settings .limit) ks p → Well (settings .limit) ks p → Well (settings .limit) ks (modelTime settings p q t way)
 unfolding modelTime
-time-well settings ks p t above two small e first w = go (eqb (length (p .now .times)) limit) refl
+time-well settings ks p q t above two small e first w = go (eqb (length (p .now .times)) limit) refl
   where
     limit : ℕ
     limit = settings .limit
 
-    go : (b : Bool) → eqb (length (p .now .times)) limit ≡ b → Well limit ks (timed (pick b (cut p) p) t)
-    go true q = cut-well limit ks p t (eqb-true (length (p .now .times)) limit q) two small e w
-    go false q =
-        let z = eqb-false (length (p .now .times)) limit q in
-        timed-well limit ks p t (below-limit (w .room) z) small e first w
+    go : (b : Bool) → eqb (length (p .now .times)) limit ≡ b → Well limit ks (timed (pick b (cut p) p) q t)
+    go true f = cut-well limit ks p q t (eqb-true (length (p .now .times)) limit f) two small e w
+    go false f =
+        let z = eqb-false (length (p .now .times)) limit f in
+        timed-well limit ks p q t (below-limit (w .room) z) small e first w
       where
         below-limit : length (p .now .times) ≤ limit → (length (p .now .times) ≡ limit → ⊥) → length (p .now .times) < limit
         below-limit r n = omega arith
-time-well settings ks p t equal two small e first w = skip-well (settings .limit) ks p (skipSame (settings .edition) (p .skips)) (p .closed) w
-time-well settings ks p t below two small e first w = skip-well (settings .limit) ks p (skipBegun (p .skips)) (p .closed) w
+time-well settings ks p q t equal two small e first w = skip-well (settings .limit) ks p (onSkip (skipSame (settings .edition)) (p .skips) q) (p .closed) w
+time-well settings ks p q t below two small e first w = skip-well (settings .limit) ks p (onSkip skipBegun (p .skips) q) (p .closed) w
 
-time-open : (settings : Settings) (p : Model) (t : ℕ) (way : Way) → modelTime settings p t way .closed ≡ p .closed
+time-open : (settings : Settings) (p : Model) (q t : ℕ) (way : Way) → modelTime settings p q t way .closed ≡ p .closed
 unfolding modelTime cut
-time-open settings p t above = go (eqb (length (p .now .times)) (settings .limit))
+time-open settings p q t above = go (eqb (length (p .now .times)) (settings .limit))
   where
     go : (b : Bool) → pick b (cut p) p .closed ≡ p .closed
     go true = unfold cut in refl
     go false = refl
-time-open settings p t equal = refl
-time-open settings p t below = refl
+time-open settings p q t equal = refl
+time-open settings p q t below = refl
 
-change-open : (p : Model) (g : ℕ) (b : Bool) (d : Decoded) → modelChange p g b d .closed ≡ p .closed
+change-open : (p : Model) (q g : ℕ) (b : Bool) (d : Decoded) → modelChange p q g b d .closed ≡ p .closed
 unfolding modelChange
-change-open p g true d = refl
-change-open p g false (refuse n) = refl
-change-open p g false (accept a c) = refl
+change-open p q g true d = refl
+change-open p q g false (refuse n) = refl
+change-open p q g false (accept a c) = refl
 
 pub start-good : (limit : ℕ) (ks : List SignalEncoding) → Good limit ks noModel
 start-good limit ks = good-open limit ks noModel refl (start-well limit ks)
 
 -- a call that is not refused meets an open recording, and a change that is not refused has a time before it
 pub step-good : (settings : Settings) (ks : List SignalEncoding) (p : Model) (c : Call) (refused : Bool) → 2 ≤ settings .limit → CallFits c → (refused ≡ false → p .closed ≡ false)
-    → (refused ≡ false → (g : ℕ) (v : Given) → c ≡ change g v → 0 < length (p .now .times))
+    → (refused ≡ false → (q g : ℕ) (v : Given) → c ≡ change q g v → 0 < length (p .now .times))
     → (length (p .now .times) ≡ 0 → (p .blocks ≡ []) × (p .now .changes ≡ [])) → Good (settings .limit) ks p
     → Good (settings .limit) ks (modelStep ks settings p c refused)
 unfolding modelStep
 step-good settings ks p c true two fit up fine first w = w
-step-good settings ks p (time t) false two fit up fine first w =
-    good-open (settings .limit) ks (modelTime settings p t (wayOf (p .now .times) t)) (time-open settings p t (wayOf (p .now .times) t) ∙ up refl)
-    (time-well settings ks p t (wayOf (p .now .times) t) two fit refl first (w .well (up refl)))
-step-good settings ks p (change g v) false two fit up fine first w =
+step-good settings ks p (time q t) false two fit up fine first w =
+    good-open (settings .limit) ks (modelTime settings p q t (wayOf (p .now .times) t)) (time-open settings p q t (wayOf (p .now .times) t) ∙ up refl)
+    (time-well settings ks p q t (wayOf (p .now .times) t) two (fit .1) refl first (w .well (up refl)))
+step-good settings ks p (change q g v) false two fit up fine first w =
     let d : Decoded = decode (getD ks g Absent) v in
-    good-open (settings .limit) ks (modelChange p g (p .skips .on) d) (change-open p g (p .skips .on) d ∙ up refl)
-    (change-well (settings .limit) ks p g (p .skips .on) v d (value-given v (fit .1)) refl (fine refl g v refl) (w .well (up refl)))
+    good-open (settings .limit) ks (modelChange p q g (skipOf (p .skips) q .on) d) (change-open p q g (skipOf (p .skips) q .on) d ∙ up refl)
+    (change-well (settings .limit) ks p q g (skipOf (p .skips) q .on) v d (value-given v (fit .2)) refl (fine refl q g v refl) (w .well (up refl)))
 step-good settings ks p finish false two fit up fine first w = record {
   well = λ q. let z : _≡_ {A = ℕ} 0 1 = cc in absurd (omega arith);
   shut = λ q. closed-fits (settings .limit) ks p first (w .well (up refl));

@@ -15,9 +15,9 @@ use Rattle.signal.specs.Content.{Decoded, refuse, accept, decode}
 use Rattle.stream.specs.Entries.{Entry}
 use Rattle.image.specs.Block.{Part, Block, part, block}
 use Rattle.recording.specs.Calls.{Call, time, change, finish, Way, above, equal, below, wayOf}
-use Rattle.recording.specs.State.{noSkips, skipBegun, skipEnded, skipSame, skipCounted}
-use Rattle.recording.specs.declared.ProbeSkip.{ProbeSkip}
+use Rattle.recording.specs.State.{noSkips, skipBegun, skipEnded, skipSame, skipCounted, skipOf, onSkip}
 use Rattle.recording.specs.declared.Settings.{Settings}
+use Rattle.recording.specs.declared.Skips.{Skips}
 use Rattle.history.specs.History.{Change, History, listOf, topOf}
 use Rattle.loaded.specs.Loading.{overlap, joinTimes}
 
@@ -54,10 +54,10 @@ joined l (b ∷ bs) = joined (join l b) bs
 pub record Model : Type 0 where
   pub blocks : List Chunk
   pub now : Chunk
-  pub skips : ProbeSkip
+  pub skips : Skips
   pub closed : Bool
 
-abbrev pub model : List Chunk → Chunk → ProbeSkip → Bool → Model
+abbrev pub model : List Chunk → Chunk → Skips → Bool → Model
 model bs o k c = record { blocks = bs; now = o; skips = k; closed = c }
 
 abbrev pub noModel : Model
@@ -67,18 +67,18 @@ noModel = model [] noChunk noSkips false
 unfoldable pub cut : Model → Model
 cut p = model (p .blocks ++ p .now ∷ []) (chunk (lastOr 0 (p .now .times) ∷ []) []) (p .skips) (p .closed)
 
-abbrev pub timed : Model → ℕ → Model
-timed p t = model (p .blocks) (chunk (p .now .times ++ t ∷ []) (p .now .changes)) (skipEnded (p .skips)) (p .closed)
+abbrev pub timed : Model → (sender t : ℕ) → Model
+timed p q t = model (p .blocks) (chunk (p .now .times ++ t ∷ []) (p .now .changes)) (onSkip skipEnded (p .skips) q) (p .closed)
 
-unfoldable pub modelTime : Settings → Model → ℕ → Way → Model
-modelTime settings p t above = timed (pick (eqb (length (p .now .times)) (settings .limit)) (cut p) p) t
-modelTime settings p t equal = model (p .blocks) (p .now) (skipSame (settings .edition) (p .skips)) (p .closed)
-modelTime settings p t below = model (p .blocks) (p .now) (skipBegun (p .skips)) (p .closed)
+unfoldable pub modelTime : Settings → Model → (sender t : ℕ) → Way → Model
+modelTime settings p q t above = timed (pick (eqb (length (p .now .times)) (settings .limit)) (cut p) p) q t
+modelTime settings p q t equal = model (p .blocks) (p .now) (onSkip (skipSame (settings .edition)) (p .skips) q) (p .closed)
+modelTime settings p q t below = model (p .blocks) (p .now) (onSkip skipBegun (p .skips) q) (p .closed)
 
-unfoldable pub modelChange : Model → (signal : ℕ) → (skip : Bool) → Decoded → Model
-modelChange p g true d = model (p .blocks) (p .now) (skipCounted (p .skips)) (p .closed)
-modelChange p g false (refuse n) = p
-modelChange p g false (accept a c) =
+unfoldable pub modelChange : Model → (sender signal : ℕ) → (skip : Bool) → Decoded → Model
+modelChange p q g true d = model (p .blocks) (p .now) (onSkip skipCounted (p .skips) q) (p .closed)
+modelChange p q g false (refuse n) = p
+modelChange p q g false (accept a c) =
     model (p .blocks)
     (chunk (p .now .times) (p .now .changes ++ record { signal = g; place = length (p .now .times) - 1; content = a; class = c } ∷ []))
     (p .skips) (p .closed)
@@ -92,8 +92,8 @@ noTime (t ∷ ts) = false
 
 unfoldable pub modelStep : List SignalEncoding → Settings → Model → Call → (refused : Bool) → Model
 modelStep ks settings p c true = p
-modelStep ks settings p (time t) false = modelTime settings p t (wayOf (p .now .times) t)
-modelStep ks settings p (change g v) false = modelChange p g (p .skips .on) (decode (getD ks g Absent) v)
+modelStep ks settings p (time q t) false = modelTime settings p q t (wayOf (p .now .times) t)
+modelStep ks settings p (change q g v) false = modelChange p q g (skipOf (p .skips) q .on) (decode (getD ks g Absent) v)
 modelStep ks settings p finish false = close (pick (noTime (p .now .times)) p (cut p))
 
 -- ---- the image of finished blocks

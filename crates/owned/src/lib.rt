@@ -1,5 +1,5 @@
 // A caller that owns its signals' records: an array of two, lent to each entry point of the recorder and taken back. Document 01,
-// 'Recording' and 'Turned back' (1 to 8 and 10).
+// 'Recording' and 'Turned back' (1 to 8 and 10); document 02, (k) (18).
 //
 // The entry points take a lent slice of records; who has plain values only calls these functions. Each contract is the entry point's
 // equation, with the array for the slice.
@@ -60,7 +60,7 @@ pub fn time_change<'t, 'w, 'i>(
     stamp: Stamp,
 ) -> Kept
     ensures { λ r. ⌜ left (r .outcome) (r .records) (now (times .exit)) (now (work .entry)) (now (image .exit))
-        ≡ timeOf (memory state kept (now (times .entry)) (now (work .entry)) (now (image .entry))) (stamp .time) ⌝ }
+        ≡ timeOf (memory state kept (now (times .entry)) (now (work .entry)) (now (image .entry))) (stamp .sender) (stamp .time) ⌝ }
 {
     let mut records = kept;
     let outcome = time::time_change(state, &mut records, times, work, image, stamp);
@@ -78,7 +78,7 @@ pub fn vcd_value_change<'t, 'w, 'i, 'b>(
     value: &'b [u8],
 ) -> Kept
     ensures { λ r. ⌜ left (r .outcome) (r .records) (now (times .entry)) (now (work .exit)) (now (image .entry))
-        ≡ changeOf (memory state kept (now (times .entry)) (now (work .entry)) (now (image .entry))) (target .signal .0) (vcd (now (value .entry))) ⌝ }
+        ≡ changeOf (memory state kept (now (times .entry)) (now (work .entry)) (now (image .entry))) (target .sender) (target .signal .0) (vcd (now (value .entry))) ⌝ }
 {
     let mut records = kept;
     let outcome = changes::vcd_value_change(state, &mut records, times, work, image, target, value);
@@ -97,7 +97,7 @@ pub fn raw_class_change<'t, 'w, 'i, 'b>(
     bytes: &'b [u8],
 ) -> Kept
     ensures { λ r. ⌜ left (r .outcome) (r .records) (now (times .entry)) (now (work .exit)) (now (image .entry))
-        ≡ changeOf (memory state kept (now (times .entry)) (now (work .entry)) (now (image .entry))) (target .signal .0) (raw (classNumber claim) (now (bytes .entry))) ⌝ }
+        ≡ changeOf (memory state kept (now (times .entry)) (now (work .entry)) (now (image .entry))) (target .sender) (target .signal .0) (raw (classNumber claim) (now (bytes .entry))) ⌝ }
 {
     let mut records = kept;
     let outcome = raw::raw_class_change(
@@ -125,7 +125,7 @@ pub fn raw_claim_change<'t, 'w, 'i, 'b>(
     bytes: &'b [u8],
 ) -> Kept
     ensures { λ r. ⌜ left (r .outcome) (r .records) (now (times .entry)) (now (work .exit)) (now (image .entry))
-        ≡ changeOf (memory state kept (now (times .entry)) (now (work .entry)) (now (image .entry))) (target .signal .0) (raw claim (now (bytes .entry))) ⌝ }
+        ≡ changeOf (memory state kept (now (times .entry)) (now (work .entry)) (now (image .entry))) (target .sender) (target .signal .0) (raw claim (now (bytes .entry))) ⌝ }
 {
     let mut records = kept;
     let outcome = changes::raw_claim_change(
@@ -152,7 +152,7 @@ pub fn real_change<'t, 'w, 'i>(
     bits: u64,
 ) -> Kept
     ensures { λ r. ⌜ left (r .outcome) (r .records) (now (times .entry)) (now (work .exit)) (now (image .entry))
-        ≡ changeOf (memory state kept (now (times .entry)) (now (work .entry)) (now (image .entry))) (target .signal .0) (real bits) ⌝ }
+        ≡ changeOf (memory state kept (now (times .entry)) (now (work .entry)) (now (image .entry))) (target .sender) (target .signal .0) (real bits) ⌝ }
 {
     let mut records = kept;
     let outcome = changes::real_change(state, &mut records, times, work, image, target, bits);

@@ -1,17 +1,15 @@
 // The calls on two records, each by its number in a run.
 use owned::Kept;
 use recording::Encoder;
-use recording::Settings;
 use recording::SignalRecord;
-use recording::Stamp;
 use recording::Target;
 use sheet::run::FINISH;
+use sheet::run::Given;
 use sheet::run::REAL;
 use sheet::run::START;
 use sheet::run::TIME;
 use sheet::run::VCD;
 use sheet::run::low;
-use signal::SignalRef;
 use value::states::States;
 
 // Makes a change. The number is the claim of a raw value, or the bits of a real. Class Two is claimed by the class itself and any other by
@@ -49,12 +47,10 @@ fn change(
     )
 }
 
-// Makes a call with its two numbers, a start with its settings; value is the text of a VCD value, or the bytes of a raw one.
+// Makes a call with what it is given; value is the text of a VCD value, or the bytes of a raw one.
 pub fn perform(
     call: u64,
-    settings: Settings,
-    first: u64,
-    second: u64,
+    given: Given,
     value: &[u8],
     state: Encoder,
     records: [SignalRecord; 2],
@@ -63,20 +59,21 @@ pub fn perform(
     image: &mut [u8],
 ) -> Kept {
     match call {
-        START => owned::start(state, settings, records, &*times, image),
+        START => {
+            let settings = given.settings;
+            owned::start(state, settings, records, &*times, image)
+        }
         TIME => {
-            let stamp = Stamp { time: first };
+            let stamp = given.stamp;
             owned::time_change(state, records, times, &*work, image, stamp)
         }
         FINISH => owned::finish(state, records, times, &*work, image),
         _ => {
-            let target = Target {
-                signal: SignalRef(low(first)),
-            };
+            let target = given.target;
             change(
                 call,
                 target,
-                second,
+                given.number,
                 value,
                 state,
                 records,

@@ -1,5 +1,5 @@
 // Drives the recorder over an array of two records that the program owns: the bench sheet's recording, cuts, a skip in each edition, raw and real
-// values, and each refusal of a recorder. Document 01, 'Recording', 'Turned back' and 'Bench sheet'.
+// values, two probes, and each refusal of a recorder. Document 01, 'Recording', 'Turned back' and 'Bench sheet'; document 02, (j) and (k).
 //
 // Standard input has one call to a line, in the form of crates/refused/stdin; each is answered by a line. stdout is what
 // oracle/recorder.py answers to the same sheet.
@@ -11,23 +11,26 @@ use libc::STDIN_FILENO;
 use line::hex::put_hex;
 use owned::Kept;
 use recording::SignalRecord;
+use records::names_one;
+use records::no_records;
 use records::records_for;
 use sheet::answer::print_made;
 use sheet::lent_bytes;
 use sheet::lent_numbers;
 use sheet::line_end;
+use sheet::run::BOTH;
 use sheet::run::CALL;
 use sheet::run::FINISH;
-use sheet::run::FIRST;
 use sheet::run::IMAGE;
 use sheet::run::Run;
-use sheet::run::SECOND;
 use sheet::run::START;
 use sheet::run::TIMES;
 use sheet::run::WORK;
+use sheet::run::flag;
 use sheet::run::fresh_run;
+use sheet::run::given_of;
+use sheet::run::probes_of;
 use sheet::run::put_outcome;
-use sheet::run::settings_of;
 use sheet::run::state_of;
 use sheet::run::take_line;
 use sheet::value_digits;
@@ -37,7 +40,7 @@ use text::between;
 // A start finds records of its kinds, any other call those of the call before.
 fn begun(run: &Run, line: &[u8], records: [SignalRecord; 2]) -> [SignalRecord; 2] {
     if run[CALL] == START {
-        return records_for(line);
+        return records_for(line, probes_of(run));
     }
     records
 }
@@ -47,6 +50,7 @@ fn keep(run: &mut Run, kept: Kept) -> [SignalRecord; 2] {
     let outcome = kept.outcome;
     let records = kept.records;
     put_outcome(run, outcome);
+    run[BOTH] = flag(names_one(records));
     records
 }
 
@@ -60,15 +64,13 @@ fn make(
     image: &mut [u8],
 ) -> [SignalRecord; 2] {
     let state = state_of(&*run);
-    let settings = settings_of(&*run);
+    let given = given_of(&*run);
     let t = run[TIMES];
     let w = run[WORK];
     let i = run[IMAGE];
     let kept = perform(
         run[CALL],
-        settings,
-        run[FIRST],
-        run[SECOND],
+        given,
         value,
         state,
         records,
@@ -106,7 +108,7 @@ fn take_call(
 }
 
 fn unset() -> Owned {
-    let records = records_for(b"");
+    let records = no_records();
     Owned { records }
 }
 
@@ -132,7 +134,7 @@ fn take_sheet(sheet: &[u8]) {
 }
 
 fn main() {
-    let mut sheet = [0u8; 4096];
+    let mut sheet = [0u8; 8192];
     let n = io::read_full(STDIN_FILENO, &mut sheet);
     take_sheet(&sheet[..n]);
 }

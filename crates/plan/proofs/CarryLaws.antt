@@ -2,7 +2,7 @@
 -- Assumes nothing.
 use Prim.Native.Nat.{ℕ, _+_, _-_, _<_}
 use mathlib.Core.Path.{_≡_, refl, sym, _∙_, subst}
-use mathlib.Core.Bool.{true}
+use mathlib.Core.Bool.{true, false}
 use mathlib.Core.List.{List, map}
 use native.Mathlib.Omega.{arith}
 use native.Mathlib.Decide.{ℕ-discrete}
@@ -18,7 +18,7 @@ use Rattle.recording.specs.declared.Encoder.{Encoder}
 use Rattle.recording.specs.declared.SignalRecord.{SignalRecord}
 use Rattle.recording.specs.Calls.{Way, above, equal, below, wayOf, replyOf}
 use Rattle.recording.specs.Memory.{Memory, memory, After, after, recordOf, Tests, first, refused}
-use Rattle.recording.specs.Refusals.{stateTests}
+use Rattle.recording.specs.Refusals.{noProbe, stateTests}
 use Rattle.recording.specs.Step as step
 use Rattle.recording.proofs.TestsLaws.{guarded-none, guarded-first}
 use Rattle.refusals.proofs.StateLaws.{Sound, sound, state-positive}
@@ -109,62 +109,65 @@ module _ (s : Encoder) (rs : List SignalRecord) (t w i : List ℕ) where
 
   -- ---- a time
 
-  abbrev tests : Tests
-  tests = stateTests s (length rs) (length t) (length w) (length i)
+  module _ (p x : ℕ) where
+    abbrev asked : Tests
+    asked = stateTests s (noProbe p) (length rs) (length t) (length w) (length i)
 
-  module _ (x : ℕ) where
-    refused-still : (first tests ≡ 0 → ⊥) → step.timeOf m x ≡ refused m (first tests)
+    refused-still : (first asked ≡ 0 → ⊥) → step.timeOf m p x ≡ refused m (first asked)
     unfolding step.timeOf
-    refused-still z = guarded-first tests (refused m) (step.timeBy m x (wayOf (take (s .held) t) x)) z
+    refused-still z = guarded-first asked (refused m) (step.timeBy m p x (wayOf (take (s .held) t) x)) z
 
-    gone-on : first tests ≡ 0 → step.timeOf m x ≡ step.timeBy m x (wayOf (take (s .held) t) x)
+    gone-on : first asked ≡ 0 → step.timeOf m p x ≡ step.timeBy m p x (wayOf (take (s .held) t) x)
     unfolding step.timeOf
     gone-on z =
-        guarded-none tests (refused m) (step.timeBy m x (wayOf (take (s .held) t) x)) (state-positive s (length rs) (length t) (length w) (length i)) z
+        guarded-none asked (refused m) (step.timeBy m p x (wayOf (take (s .held) t) x)) (state-positive s (noProbe p) (length rs) (length t) (length w) (length i)) z
 
     module _ (h : Sound s (length rs) (length t) (length w) (length i)) where
-      full-does : s .held ≡ s .limit → Does (planBy s (length rs) w (length i) x above) (step.timeBy m x above)
+      full-does : s .held ≡ s .limit → Does (planBy s (length rs) w (length i) p x above) (step.timeBy m p x above)
       full-does e = by (sizes s rs t w i h)
         where
-          plan-is : planBy s (length rs) w (length i) x above ≡ timeSized s (length rs) x (sized s w (length i))
-          plan-is = above-cut s (length rs) w (length i) x (h .held) (omega arith)
+          plan-is : planBy s (length rs) w (length i) p x above ≡ timeSized s (length rs) p x (sized s w (length i))
+          plan-is = above-cut s (length rs) w (length i) p x (h .held) (omega arith)
 
-          time-is : step.timeBy m x above ≡ step.timeCut m x (step.cutOf m)
+          time-is : step.timeBy m p x above ≡ step.timeCut m p x (step.cutOf m)
           time-is = rw (eq-eqb (s .held) (s .limit) e) refl
 
-          by : Sizes s rs t w i h → Does (planBy s (length rs) w (length i) x above) (step.timeBy m x above)
+          by : Sizes s rs t w i h → Does (planBy s (length rs) w (length i) p x above) (step.timeBy m p x above)
           by (refuses k z a b) =
-              does-by (plan-is ∙ rw a (sized-refused s _ (timeWithCut s (length rs) x) z)) (time-is ∙ rw b refl) (refused-does k)
+              does-by (plan-is ∙ rw a (sized-refused s _ (timeWithCut s (length rs) p x) z)) (time-is ∙ rw b refl) (refused-does k)
           by (fits n a c) =
-              let o = outcome Taken (timedState (withCut s n)) in
-              does-by (plan-is ∙ rw a (sized-cut s _ (timeWithCut s (length rs) x) refl)) (time-is ∙ rw (c .cut, c .whole) refl)
+              let o = outcome Taken (timedState (withCut s n) p) in
+              does-by (plan-is ∙ rw a (sized-cut s _ (timeWithCut s (length rs) p x) refl)) (time-is ∙ rw (c .cut, c .whole) refl)
               (cut-takes h n c (omega (arith, h .low)) o x (omega arith) (omega (arith, h .low, h .table)))
 
-      room-does : (s .held ≡ s .limit → ⊥) → Does (planBy s (length rs) w (length i) x above) (step.timeBy m x above)
+      room-does : (s .held ≡ s .limit → ⊥) → Does (planBy s (length rs) w (length i) p x above) (step.timeBy m p x above)
       room-does e =
           let less : s .held < s .limit = omega (arith, h .held, e) in
           let back : s .held + 1 - 1 ≡ s .held = omega arith in
-          does-by (above-taken s (length rs) w (length i) x less) (rw (ne-eqb (s .held) (s .limit) e, back) refl)
-          (taking-does (outcome Taken (timedState s)) x (omega arith) (omega (arith, h .table, less)))
+          does-by (above-taken s (length rs) w (length i) p x less) (rw (ne-eqb (s .held) (s .limit) e, back) refl)
+          (taking-does (outcome Taken (timedState s p)) x (omega arith) (omega (arith, h .table, less)))
 
-      way-does : (y : Way) → Does (planBy s (length rs) w (length i) x y) (step.timeBy m x y)
-      way-does equal = still-does (outcome Same (step.sameTime s))
-      way-does below = still-does (outcome Back (step.skipping s))
+      way-does : (y : Way) → Does (planBy s (length rs) w (length i) p x y) (step.timeBy m p x y)
+      way-does equal = still-does (outcome Same (step.sameTime s p))
+      way-does below = still-does (outcome Back (step.skipping s p))
       way-does above = by (ℕ-discrete (s .held) (s .limit))
         where
-          by : Dec (s .held ≡ s .limit) → Does (planBy s (length rs) w (length i) x above) (step.timeBy m x above)
+          by : Dec (s .held ≡ s .limit) → Does (planBy s (length rs) w (length i) p x above) (step.timeBy m p x above)
           by (yes e) = full-does e
           by (no e) = room-does e
 
-    time-does : Does (planTime s (length rs) t w (length i) x) (step.timeOf m x)
-    time-does = by (ℕ-discrete (first tests) 0)
+    time-does : Does (planTime s (length rs) t w (length i) p x) (step.timeOf m p x)
+    time-does = by (ℕ-discrete (first asked) 0)
       where
-        by : Dec (first tests ≡ 0) → Does (planTime s (length rs) t w (length i) x) (step.timeOf m x)
-        by (no z) = does-by (time-refused s (length rs) t w (length i) x z) (refused-still z) (refused-does (first tests))
+        by : Dec (first asked ≡ 0) → Does (planTime s (length rs) t w (length i) p x) (step.timeOf m p x)
+        by (no z) = does-by (time-refused s (length rs) t w (length i) p x z) (refused-still z) (refused-does (first asked))
         by (yes z) =
-            does-by (time-passed s (length rs) t w (length i) x z) (gone-on z) (way-does (sound _ _ _ _ _ z) (wayOf (take (s .held) t) x))
+            does-by (time-passed s (length rs) t w (length i) p x z) (gone-on z) (way-does (sound _ _ _ _ _ _ z) (wayOf (take (s .held) t) x))
 
   -- ---- a finish
+
+  abbrev tests : Tests
+  tests = stateTests s false (length rs) (length t) (length w) (length i)
 
   abbrev going : After
   going = pick (eqb (s .held) 0) (step.closing m) (step.finishCut m (step.cutOf m))
@@ -175,7 +178,7 @@ module _ (s : Encoder) (rs : List SignalRecord) (t w i : List ℕ) where
 
   closed-on : first tests ≡ 0 → step.finishOf m ≡ going
   unfolding step.finishOf
-  closed-on z = guarded-none tests (refused m) going (state-positive s (length rs) (length t) (length w) (length i)) z
+  closed-on z = guarded-none tests (refused m) going (state-positive s false (length rs) (length t) (length w) (length i)) z
 
   abbrev ending : Plan
   ending = planFinish s (length rs) (length t) w (length i)
@@ -203,16 +206,16 @@ module _ (s : Encoder) (rs : List SignalRecord) (t w i : List ℕ) where
       by (no z) d = does-by (ends.finish-refused s (length rs) (length t) w (length i) z) (closed-back z) (refused-does (first tests))
       by (yes z) (yes e) =
           does-by (ends.finish-empty s (length rs) (length t) w (length i) z e) (closed-on z ∙ rw (eq-eqb (s .held) 0 e) refl) (still-does (closing s))
-      by (yes z) (no e) = held-does (sound s (length rs) (length t) (length w) (length i) z) z e
+      by (yes z) (no e) = held-does (sound s false (length rs) (length t) (length w) (length i) z) z e
 
   -- ---- what callers cite; n is the count of records
 
   module _ (n : ℕ) (e : length rs ≡ n) where
-    pub time-carries : (x : ℕ) → Carries (planTime s n t w (length i) x) rs t w i
-    time-carries x = subst (λ (k : ℕ). Carries (planTime s k t w (length i) x) rs t w i) e (time-does x .carries)
+    pub time-carries : (p x : ℕ) → Carries (planTime s n t w (length i) p x) rs t w i
+    time-carries p x = subst (λ (k : ℕ). Carries (planTime s k t w (length i) p x) rs t w i) e (time-does p x .carries)
 
-    pub time-carried : (x : ℕ) → carried (planTime s n t w (length i) x) m ≡ step.timeOf m x
-    time-carried x = subst (λ (k : ℕ). carried (planTime s k t w (length i) x) m ≡ step.timeOf m x) e (time-does x .same)
+    pub time-carried : (p x : ℕ) → carried (planTime s n t w (length i) p x) m ≡ step.timeOf m p x
+    time-carried p x = subst (λ (k : ℕ). carried (planTime s k t w (length i) p x) m ≡ step.timeOf m p x) e (time-does p x .same)
 
     pub finish-carries : Carries (planFinish s n (length t) w (length i)) rs t w i
     finish-carries = subst (λ (k : ℕ). Carries (planFinish s k (length t) w (length i)) rs t w i) e (finish-does .carries)
@@ -224,17 +227,17 @@ module _ (s : Encoder) (rs : List SignalRecord) (t w i : List ℕ) where
 
 module _ (s : Encoder) (n : ℕ) (t w i : List ℕ) where
   abbrev some-records : List SignalRecord
-  some-records = replicate n (recordOf Absent 0 Two)
+  some-records = replicate n (recordOf Absent 0 Two 0)
 
   so-many : length some-records ≡ n
-  so-many = length-replicate n (recordOf Absent 0 Two)
+  so-many = length-replicate n (recordOf Absent 0 Two 0)
 
   -- the block that the plan cuts can be opened
   abbrev Opening : Plan → Type 0
   Opening p = p .cuts ≡ true → CutOpens (p .state) (p .size) t w i
 
-  pub time-opens : (x : ℕ) → Opening (planTime s n t w (length i) x)
-  time-opens x = subst (λ (k : ℕ). Opening (planTime s k t w (length i) x)) so-many (time-does s some-records t w i x .opens)
+  pub time-opens : (p x : ℕ) → Opening (planTime s n t w (length i) p x)
+  time-opens p x = subst (λ (k : ℕ). Opening (planTime s k t w (length i) p x)) so-many (time-does s some-records t w i p x .opens)
 
   pub finish-opens : Opening (planFinish s n (length t) w (length i))
   finish-opens = subst (λ (k : ℕ). Opening (planFinish s k (length t) w (length i))) so-many (finish-does s some-records t w i .opens)

@@ -2,6 +2,7 @@
 -- Assumes nothing.
 use Prim.Native.Nat.{ℕ}
 use mathlib.Core.Path.{_≡_, refl, _∙_}
+use mathlib.Core.Bool.{false}
 use mathlib.Core.List.{List}
 use borrow.Author.Tests.{eq-eqb, ne-eqb}
 use lib.ListN.{length}
@@ -19,7 +20,7 @@ use Rattle.plan.specs.Plan.{planRefused, finishSized, planFinish}
 
 module _ (s : Encoder) (n t : ℕ) (w : List ℕ) (i : ℕ) where
   abbrev tests : Tests
-  tests = stateTests s n t (length w) i
+  tests = stateTests s false n t (length w) i
 
   abbrev going : Plan
   going = pick (eqb (s .held) 0) (still (closing s) s) (finishSized s n (sized s w i))
@@ -30,7 +31,7 @@ module _ (s : Encoder) (n t : ℕ) (w : List ℕ) (i : ℕ) where
 
   past : first tests ≡ 0 → planFinish s n t w i ≡ going
   unfolding planFinish
-  past z = guarded-none tests (planRefused s) going (state-positive s n t (length w) i) z
+  past z = guarded-none tests (planRefused s) going (state-positive s false n t (length w) i) z
 
   pub finish-empty : first tests ≡ 0 → s .held ≡ 0 → planFinish s n t w i ≡ still (closing s) s
   finish-empty z e = past z ∙ rw (eq-eqb (s .held) 0 e) refl

@@ -19,7 +19,7 @@ ghost use Rattle.plan.specs.Carry.{openedBy};
 fn plan_finish(state: Encoder, lent: Lengths, work: &[u8]) -> Plan
     ensures { λ r. ⌜ r ≡ planFinish state (lent .records) (lent .times) (now (work .entry)) (lent .image) ⌝ }
 {
-    let n = state_refusal(state, lent, work.len());
+    let n = state_refusal(state, false, lent, work.len());
     if n != 0 {
         return plan_still(refused(n, state), state);
     }

@@ -35,41 +35,44 @@ pub fn begun(settings: Settings) -> Outcome
     }
 }
 
-// An equal time adds no time, and ends a skip in edition 2.
-pub fn same(state: Encoder) -> Outcome
-    ensures { λ r. ⌜ r ≡ outcome Answer.Same (sameTime state) ⌝ }
+// An equal time adds no time, and ends the skip of its sender in edition 2.
+pub fn same(state: Encoder, sender: u32) -> Outcome
+    ensures { λ r. ⌜ r ≡ outcome Answer.Same (sameTime state sender) ⌝ }
 {
     let skips = state.skips;
+    let skip = skips.of(sender).after_same(state.edition);
     let mut after = state;
-    after.skips = skips.after_same(state.edition);
+    after.skips = skips.with(sender, skip);
     Outcome {
         answer: Answer::Same,
         state: after,
     }
 }
 
-// A smaller time starts a skip.
-pub fn back(state: Encoder) -> Outcome
-    ensures { λ r. ⌜ r ≡ outcome Answer.Back (skipping state) ⌝ }
+// A smaller time starts the skip of its sender.
+pub fn back(state: Encoder, sender: u32) -> Outcome
+    ensures { λ r. ⌜ r ≡ outcome Answer.Back (skipping state sender) ⌝ }
 {
     let skips = state.skips;
+    let skip = skips.of(sender).begun();
     let mut after = state;
-    after.skips = skips.begun();
+    after.skips = skips.with(sender, skip);
     Outcome {
         answer: Answer::Back,
         state: after,
     }
 }
 
-// A taken time joins the table and ends a skip.
-pub fn taken(state: Encoder) -> Outcome
+// A taken time joins the table and ends the skip of its sender.
+pub fn taken(state: Encoder, sender: u32) -> Outcome
     requires { ⌜ state .held + 1 < 4294967296 ⌝ }
-    ensures { λ r. ⌜ r ≡ outcome Answer.Taken (timedState state) ⌝ }
+    ensures { λ r. ⌜ r ≡ outcome Answer.Taken (timedState state sender) ⌝ }
 {
     let skips = state.skips;
+    let skip = skips.of(sender).ended();
     let mut after = state;
     after.held = state.held + 1;
-    after.skips = skips.ended();
+    after.skips = skips.with(sender, skip);
     Outcome {
         answer: Answer::Taken,
         state: after,

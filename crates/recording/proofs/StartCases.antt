@@ -18,10 +18,10 @@ use Rattle.image.specs.Head.{headSize, headBytes, imageLimit}
 use Rattle.recording.specs.declared.Settings.{Settings}
 use Rattle.recording.specs.Calls.{started}
 use Rattle.recording.specs.Memory.{Memory, memory, After, after, recordOf, refused}
-use Rattle.recording.specs.Refusals.{outside, unknownKind, startTests}
-use Rattle.recording.specs.State.{probeSkip, settingsOf}
+use Rattle.recording.specs.Refusals.{outside, anyBad, startTests}
+use Rattle.recording.specs.State.{noSkips, settingsOf}
 use Rattle.recording.specs.Step.{startOf}
-use Rattle.recording.specs.Runs.{staleState, stale}
+use Rattle.recording.specs.Runs.{staleState, staleOf}
 use Rattle.recording.proofs.StartLaws.{start-fits}
 
 -- ---- what is not lawful is 1, whatever else is not
@@ -55,9 +55,9 @@ module _ (s : Settings) (m : Memory) where
   unfolding startOf startTests
   signals-other h = rw (ne-eqb (s .signals) (length (m .records)) h, or-true (ltb 65536 (s .signals))) (simp pick-same)
 
-  pub kind-unknown : unknownKind (m .records) ≡ true → startOf s m ≡ refused m 1
+  pub record-bad : anyBad (m .records) ≡ true → startOf s m ≡ refused m 1
   unfolding startOf startTests
-  kind-unknown h = rw h (simp pick-same)
+  record-bad h = rw h (simp pick-same)
 
   pub image-short : length (m .image) < headSize (s .signals) → startOf s m ≡ refused m 1
   unfolding startOf startTests
@@ -82,7 +82,7 @@ pub record Chosen (edition : ℕ) : Type 0 where
 pub record Counted (signals : ℕ) (m : Memory) : Type 0 where
   pub few : signals ≤ 65536
   pub all : signals ≡ length (m .records)
-  pub known : unknownKind (m .records) ≡ false
+  pub known : anyBad (m .records) ≡ false
 
 pub record Roomy (signals : ℕ) (m : Memory) : Type 0 where
   pub room : 16 + 4 * signals ≤ length (m .image)
@@ -136,7 +136,7 @@ edition-2 l s m b = fits l s 2 m b (record { early = omega arith; late = omega a
 pub edition-3 : (limit signals : ℕ) (m : Memory) → Refuses limit signals 3 m
 edition-3 l s m = edition-high (settingsOf l s 3) m (omega arith)
 
-pub signals-65536 : (limit edition : ℕ) (m : Memory) → Limited limit m → Chosen edition → length (m .records) ≡ 65536 → unknownKind (m .records) ≡ false → Roomy 65536 m
+pub signals-65536 : (limit edition : ℕ) (m : Memory) → Limited limit m → Chosen edition → length (m .records) ≡ 65536 → anyBad (m .records) ≡ false → Roomy 65536 m
     → Begins limit 65536 edition m
 signals-65536 l e m b t c k = fits l 65536 e m b t (record { few = omega arith; all = sym c; known = k })
 
@@ -162,10 +162,10 @@ image-1073741825 l s e m i = image-long (settingsOf l s e) m (omega arith)
 -- ---- cases, on lent memory that holds nonsense
 
 abbrev pub lent : List SignalEncoding → (times image : ℕ) → Memory
-lent ks t i = memory staleState (map stale ks) (replicate t 99) (99 ∷ []) (replicate i 99)
+lent ks t i = memory staleState (map (staleOf 0) ks) (replicate t 99) (99 ∷ []) (replicate i 99)
 
 bit-fits : (t : ℕ) → 65535 ≤ t → Begins 65535 1 1 (lent (BitVector 1 ∷ []) t 20)
-unfolding unknownKind
+unfolding anyBad
 bit-fits t h =
     limit-65535 1 1 (lent (BitVector 1 ∷ []) t 20) (rw (length-replicate {A = ℕ} t 99) h)
     (record { early = omega arith; late = omega arith })
@@ -184,30 +184,30 @@ table-one-fewer = bit-short 65534 (omega arith)
 
 -- an event, the widest vector, a real and an absent signal are known; a wider vector is not
 pub width-65536 : Begins 2 4 1 (lent (BitVector 0 ∷ BitVector 65536 ∷ Real ∷ Absent ∷ []) 2 32)
-unfolding unknownKind startTests startOf
+unfolding anyBad startTests startOf
 width-65536 = refl
 
 pub width-65537 : Refuses 2 4 1 (lent (BitVector 0 ∷ BitVector 65537 ∷ Real ∷ Absent ∷ []) 2 32)
-unfolding unknownKind startTests startOf
+unfolding anyBad startTests startOf
 width-65537 = refl
 
 -- no signals: 16 bytes are enough, 15 are not
 pub no-signals : Begins 2 0 1 (lent [] 2 16) × Refuses 2 0 1 (lent [] 2 15)
-unfolding unknownKind startTests startOf
+unfolding anyBad startTests startOf
 no-signals = (refl, refl)
 
 -- one record more than S, and one fewer
 pub other-count : Refuses 2 1 1 (lent (Real ∷ Real ∷ []) 2 24) × Refuses 2 3 1 (lent (Real ∷ Real ∷ []) 2 28)
-unfolding unknownKind startTests startOf
+unfolding anyBad startTests startOf
 other-count = (refl, refl)
 
 -- widths 1 and 4 with B 4, as on the bench sheet, in edition 2: the head, which tells nothing of the edition, all records at 0, nothing past
 -- the head, and the other buffers as they were
 pub started-anew : startOf (settingsOf 4 2 2) (lent (BitVector 1 ∷ BitVector 4 ∷ []) 5 26)
     ≡ after started
-    (memory (record { closed = false; limit = 4; signals = 2; held = 0; work = 0; image = 24; blocks = 0; edition = 2; skips = probeSkip false 0 })
-    (recordOf (BitVector 1) 0 Two ∷ recordOf (BitVector 4) 0 Two ∷ [])
+    (memory (record { closed = false; limit = 4; signals = 2; held = 0; work = 0; image = 24; blocks = 0; edition = 2; skips = noSkips })
+    (recordOf (BitVector 1) 0 Two 0 ∷ recordOf (BitVector 4) 0 Two 0 ∷ [])
     (99 ∷ 99 ∷ 99 ∷ 99 ∷ 99 ∷ []) (99 ∷ [])
     (2 ∷ 0 ∷ 0 ∷ 0 ∷ 4 ∷ 0 ∷ 0 ∷ 0 ∷ 0 ∷ 0 ∷ 0 ∷ 0 ∷ 24 ∷ 0 ∷ 0 ∷ 0 ∷ 1 ∷ 0 ∷ 0 ∷ 0 ∷ 4 ∷ 0 ∷ 0 ∷ 0 ∷ 99 ∷ 99 ∷ []))
-unfolding le les headBytes unknownKind startTests startOf
+unfolding le les headBytes anyBad startTests startOf
 started-anew = refl

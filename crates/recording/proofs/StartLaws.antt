@@ -13,13 +13,13 @@ use Rattle.image.specs.Head.{headSize, headBytes, imageLimit}
 use Rattle.recording.specs.declared.Settings.{Settings}
 use Rattle.recording.specs.Calls.{started}
 use Rattle.recording.specs.Memory.{Memory, memory, After, after, Tests, first, refused}
-use Rattle.recording.specs.Refusals.{unknownKind, startTests}
+use Rattle.recording.specs.Refusals.{anyBad, startTests}
 use Rattle.recording.specs.State.{startState}
 use Rattle.recording.specs.Step.{fresh, kindsOf, startOf}
 use Rattle.recording.proofs.TestsLaws.{none-of, guarded-first}
 
 -- what is lawful in a start, by the numbers of its tests
-pub record Startable (settings : Settings) (records : ℕ) (unknown : Bool) (times image : ℕ) : Type 0 where
+pub record Startable (settings : Settings) (records : ℕ) (bad : Bool) (times image : ℕ) : Type 0 where
   pub low : 2 ≤ settings .limit
   pub high : settings .limit ≤ 65535
   pub early : 1 ≤ settings .edition
@@ -27,12 +27,12 @@ pub record Startable (settings : Settings) (records : ℕ) (unknown : Bool) (tim
   pub table : settings .limit ≤ times
   pub few : settings .signals ≤ 65536
   pub all : settings .signals ≡ records
-  pub known : unknown ≡ false
+  pub known : bad ≡ false
   pub room : headSize (settings .signals) ≤ image
   pub short : image ≤ imageLimit
 
 abbrev pub StartableIn : Settings → Memory → Type 0
-StartableIn s m = Startable s (length (m .records)) (unknownKind (m .records)) (length (m .times)) (length (m .image))
+StartableIn s m = Startable s (length (m .records)) (anyBad (m .records)) (length (m .times)) (length (m .image))
 
 -- what a start leaves that no test refuses
 abbrev pub begunIn : Settings → Memory → After
@@ -58,11 +58,11 @@ start-fits s m f =
     ) refl
 
 -- where no test refuses it, it is lawful
-pub startable : (settings : Settings) (records : ℕ) (unknown : Bool) (times image : ℕ)
-    → first (startTests settings records unknown times image) ≡ 0 → Startable settings records unknown times image
+pub startable : (settings : Settings) (records : ℕ) (bad : Bool) (times image : ℕ)
+    → first (startTests settings records bad times image) ≡ 0 → Startable settings records bad times image
 unfolding startTests
-startable settings records unknown times image e =
-    let f = none-of (startTests settings records unknown times image) tt e in
+startable settings records bad times image e =
+    let f = none-of (startTests settings records bad times image) tt e in
     let b = none-holds (ltb (settings .limit) 2) (ltb 65535 (settings .limit)) (f .0) in
     let c = none-holds (ltb (settings .edition) 1) (ltb 2 (settings .edition)) (f .1 .0) in
     let s = none-holds (ltb 65536 (settings .signals)) (not (eqb (settings .signals) records)) (f .1 .1 .1 .0) in
@@ -84,10 +84,10 @@ startable settings records unknown times image e =
 
 module _ (settings : Settings) (m : Memory) where
   abbrev pub asked : Tests
-  asked = startTests settings (length (m .records)) (unknownKind (m .records)) (length (m .times)) (length (m .image))
+  asked = startTests settings (length (m .records)) (anyBad (m .records)) (length (m .times)) (length (m .image))
 
   pub start-lawful : first asked ≡ 0 → StartableIn settings m
-  start-lawful z = startable settings (length (m .records)) (unknownKind (m .records)) (length (m .times)) (length (m .image)) z
+  start-lawful z = startable settings (length (m .records)) (anyBad (m .records)) (length (m .times)) (length (m .image)) z
 
   pub start-refused : (first asked ≡ 0 → ⊥) → startOf settings m ≡ refused m (first asked)
   unfolding startOf

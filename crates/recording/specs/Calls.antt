@@ -12,25 +12,26 @@ use Rattle.signal.specs.Content.{Given, vcd, raw, real}
 use Rattle.recording.specs.declared.Answer.{Answer}
 use Rattle.recording.specs.declared.Answer.the-variants.{Started, Taken, Same, Back, Recorded, Skipped, Finished, Refused}
 
--- time; VCD, raw and real change (the cases of `Given`) of any signal number; finish
+-- time; VCD, raw and real change (the cases of `Given`) of any signal number; finish. Document 02, (k): each time and change names its sender, of
+-- any number; finish names none
 pub data Call : Type 0 where
-  time : ℕ → Call
-  change : (signal : ℕ) → Given → Call
+  time : (sender t : ℕ) → Call
+  change : (sender signal : ℕ) → Given → Call
   finish : Call
 
 -- what can be lent as a slice of bytes
 abbrev pub Slice : List ℕ → Type 0
 Slice s = Bytes s × (length s < 2 ^ 63)
 
--- what a caller can give: times and a real's bits have 64 bits, signal numbers and claims 32
+-- what a caller can give: times and a real's bits have 64 bits, senders, signal numbers and claims 32
 abbrev pub ValueFits : Given → Type 0
 ValueFits (vcd v) = Slice v
 ValueFits (raw c v) = (c < 2 ^ 32) × Slice v
 ValueFits (real b) = b < 2 ^ 64
 
 abbrev pub CallFits : Call → Type 0
-CallFits (time t) = t < 2 ^ 64
-CallFits (change g v) = (g < 2 ^ 32) × ValueFits v
+CallFits (time p t) = (p < 2 ^ 32) × (t < 2 ^ 64)
+CallFits (change p g v) = (p < 2 ^ 32) × (g < 2 ^ 32) × ValueFits v
 CallFits finish = Unit {0}
 
 unfoldable pub Fitting : List Call → Type 0

@@ -37,12 +37,12 @@ after r m = record { reply = r; memory = m }
 abbrev pub left : Outcome → List SignalRecord → (times work image : List ℕ) → After
 left o r t w i = after (replyOf (o .answer)) (memory (o .state) r t w i)
 
-abbrev pub recordOf : SignalEncoding → ℕ → States → SignalRecord
-recordOf k i t = record { kind = k; index = i; top = t }
+abbrev pub recordOf : SignalEncoding → (index : ℕ) → States → (probe : ℕ) → SignalRecord
+recordOf k i t p = record { kind = k; index = i; top = t; probe = p }
 
 -- the record of a signal; past the records stands an absent one
 abbrev pub recordAt : Memory → ℕ → SignalRecord
-recordAt m g = getD (m .records) g (recordOf Absent 0 Two)
+recordAt m g = getD (m .records) g (recordOf Absent 0 Two 0)
 
 -- refusals in their order, each with its condition and its number
 abbrev pub Tests : Type 0

@@ -21,25 +21,34 @@ outside limit = ltb limit 2 || ltb 65535 limit
 abbrev pub noEdition : ℕ → Bool
 noEdition e = ltb e 1 || ltb 2 e
 
-unfoldable pub unknownKind : List SignalRecord → Bool
-unknownKind [] = false
-unknownKind (r ∷ rs) = not (knownKind (r .kind)) || unknownKind rs
+-- document 02, (k): the probes are 0 and 1
+abbrev pub noProbe : ℕ → Bool
+noProbe p = ltb 1 p
 
--- 1, of a start, by the count of records, whether a kind among them is unknown, and the lengths of the lent memory
-unfoldable pub startTests : Settings → (records : ℕ) → (unknown : Bool) → (times image : ℕ) → Tests
-startTests settings records unknown times image =
+-- a record that a start refuses: its kind is unknown, or it names no probe
+abbrev pub badRecord : SignalRecord → Bool
+badRecord r = not (knownKind (r .kind)) || noProbe (r .probe)
+
+unfoldable pub anyBad : List SignalRecord → Bool
+anyBad [] = false
+anyBad (r ∷ rs) = badRecord r || anyBad rs
+
+-- 1, of a start, by the count of records, whether one of them is bad, and the lengths of the lent memory
+unfoldable pub startTests : Settings → (records : ℕ) → (bad : Bool) → (times image : ℕ) → Tests
+startTests settings records bad times image =
     (outside (settings .limit), 1)
     ∷ (noEdition (settings .edition), 1)
     ∷ (ltb times (settings .limit), 1)
     ∷ (ltb 65536 (settings .signals) || not (eqb (settings .signals) records), 1)
-    ∷ (unknown, 1)
+    ∷ (bad, 1)
     ∷ (ltb image (headSize (settings .signals)) || ltb imageLimit image, 1)
     ∷ []
 
--- 2, and the first group of 10, by the lengths of the lent memory
-unfoldable pub stateTests : Encoder → (records times work image : ℕ) → Tests
-stateTests s records times work image =
+-- 2, 18 of a sender that is no probe (`foreign`), and the first group of 10, by the lengths of the lent memory
+unfoldable pub stateTests : Encoder → (foreign : Bool) → (records times work image : ℕ) → Tests
+stateTests s foreign records times work image =
     (s .closed, 2)
+    ∷ (foreign, 18)
     ∷ (outside (s .limit), 10)
     ∷ (noEdition (s .edition), 10)
     ∷ (ltb (s .limit) (s .held), 10)
@@ -51,16 +60,16 @@ stateTests s records times work image =
     ∷ (ltb 0 (s .work) && eqb (s .held) 0, 10)
     ∷ []
 
-abbrev pub openTests : Memory → Tests
-openTests m = stateTests (m .state) (length (m .records)) (length (m .times)) (length (m .work)) (length (m .image))
+abbrev pub openTests : Memory → (foreign : Bool) → Tests
+openTests m foreign = stateTests (m .state) foreign (length (m .records)) (length (m .times)) (length (m .work)) (length (m .image))
 
 -- 3, a change before any time
 abbrev pub earlyTests : Encoder → Tests
 earlyTests s = (eqb (s .held) 0, 3) ∷ []
 
--- 4, number at or above S, or absent
-abbrev pub signalTests : Encoder → SignalRecord → (signal : ℕ) → Tests
-signalTests s r g = (leb (s .signals) g || absent (r .kind), 4) ∷ []
+-- 4, number at or above S, or absent; 18, the signal's record does not name the sender
+abbrev pub signalTests : Encoder → SignalRecord → (sender signal : ℕ) → Tests
+signalTests s r p g = (leb (s .signals) g || absent (r .kind), 4) ∷ (not (eqb (r .probe) p), 18) ∷ []
 
 -- the second group of 10 (the record's index beyond the last, or its width over 65,536), and 7, for a change of n stream bytes
 abbrev pub roomTests : Encoder → SignalRecord → (work n : ℕ) → Tests

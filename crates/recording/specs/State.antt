@@ -9,6 +9,7 @@ use Rattle.image.specs.Head.{headSize}
 use Rattle.recording.specs.declared.Encoder.{Encoder}
 use Rattle.recording.specs.declared.ProbeSkip.{ProbeSkip}
 use Rattle.recording.specs.declared.Settings.{Settings}
+use Rattle.recording.specs.declared.Skips.{Skips}
 use Rattle.recording.specs.Calls.{counted}
 
 -- ---- what a start is given
@@ -16,14 +17,14 @@ use Rattle.recording.specs.Calls.{counted}
 abbrev pub settingsOf : (limit signals edition : ℕ) → Settings
 settingsOf l s e = record { limit = l; signals = s; edition = e }
 
--- ---- the skip
+-- ---- the skip of a probe
 
 abbrev pub probeSkip : (on : Bool) (count : ℕ) → ProbeSkip
 probeSkip b n = record { on = b; count = n }
 
 -- at a start
-abbrev pub noSkips : ProbeSkip
-noSkips = probeSkip false 0
+abbrev pub noSkip : ProbeSkip
+noSkip = probeSkip false 0
 
 -- a time went back
 unfoldable pub skipBegun : ProbeSkip → ProbeSkip
@@ -41,9 +42,28 @@ skipSame e k = pick (eqb e 2) (skipEnded k) k
 unfoldable pub skipCounted : ProbeSkip → ProbeSkip
 skipCounted k = probeSkip (k .on) (counted (k .count))
 
+-- ---- document 02, (k): the skips of both probes
+
+abbrev pub bothSkips : (zero one : ProbeSkip) → Skips
+bothSkips k l = record { zero = k; one = l }
+
+abbrev pub noSkips : Skips
+noSkips = bothSkips noSkip noSkip
+
+-- a sender's; a sender above 1 is refused before
+unfoldable pub skipOf : Skips → (sender : ℕ) → ProbeSkip
+skipOf s p = pick (eqb p 0) (s .zero) (s .one)
+
+unfoldable pub withSkip : Skips → (sender : ℕ) → ProbeSkip → Skips
+withSkip s p k = pick (eqb p 0) (bothSkips k (s .one)) (bothSkips (s .zero) k)
+
+-- the sender's becomes what f says; the other probe's stays
+abbrev pub onSkip : (ProbeSkip → ProbeSkip) → Skips → (sender : ℕ) → Skips
+onSkip f s p = withSkip s p (f (skipOf s p))
+
 -- ---- the state
 
-abbrev encoder : (closed : Bool) (limit signals held work image blocks edition : ℕ) → ProbeSkip → Encoder
+abbrev encoder : (closed : Bool) (limit signals held work image blocks edition : ℕ) → Skips → Encoder
 encoder c l s h w i b e k = record { closed = c; limit = l; signals = s; held = h; work = w; image = i; blocks = b; edition = e; skips = k }
 
 abbrev pub withClosed : Encoder → Bool → Encoder
@@ -64,7 +84,7 @@ withBlocks s b = encoder (s .closed) (s .limit) (s .signals) (s .held) (s .work)
 abbrev pub withEdition : Encoder → ℕ → Encoder
 withEdition s e = encoder (s .closed) (s .limit) (s .signals) (s .held) (s .work) (s .image) (s .blocks) e (s .skips)
 
-abbrev pub withSkips : Encoder → ProbeSkip → Encoder
+abbrev pub withSkips : Encoder → Skips → Encoder
 withSkips s k = encoder (s .closed) (s .limit) (s .signals) (s .held) (s .work) (s .image) (s .blocks) (s .edition) k
 
 -- as a start leaves it: no times and no blocks; of the image its head is used

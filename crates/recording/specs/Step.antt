@@ -1,7 +1,7 @@
 -- Document 01, 'Recording' and 'Block and image': what start, time, change and finish do to the state and the lent memory.
 -- Assumes nothing.
 use Prim.Native.Nat.{ℕ, suc, _+_, _-_, max}
-use mathlib.Core.Bool.{true}
+use mathlib.Core.Bool.{true, false}
 use mathlib.Core.List.{List, [], _∷_, _++_, map}
 use mathlib.Core.Option.{Option, some, none}
 use lib.ListN.{length, take, getD, set}
@@ -20,10 +20,10 @@ use Rattle.recording.specs.declared.Encoder.{Encoder}
 use Rattle.recording.specs.declared.Settings.{Settings}
 use Rattle.recording.specs.declared.SignalRecord.{SignalRecord}
 use Rattle.recording.specs.Calls.{Call, time, change, finish, taken, same, back, recorded, skipped, Reply, say, started, total, Way, above, equal, below, wayOf}
-use Rattle.recording.specs.State.{skipBegun, skipEnded, skipSame, skipCounted, withClosed, withHeld, withWork, withImage, withBlocks, withSkips, startState}
+use Rattle.recording.specs.State.{skipBegun, skipEnded, skipSame, skipCounted, skipOf, onSkip, withClosed, withHeld, withWork, withImage, withBlocks, withSkips, startState}
 use Rattle.recording.specs.Work.{Item, item, itemBytes, itemsOf, gather}
 use Rattle.recording.specs.Memory.{Memory, memory, After, after, recordOf, recordAt, guarded, refused}
-use Rattle.recording.specs.Refusals.{unknownKind, startTests, openTests, earlyTests, signalTests, roomTests}
+use Rattle.recording.specs.Refusals.{noProbe, anyBad, startTests, openTests, earlyTests, signalTests, roomTests}
 
 abbrev pub withState : Memory → Encoder → Memory
 withState m s = memory s (m .records) (m .times) (m .work) (m .image)
@@ -42,9 +42,9 @@ partsFrom g (r ∷ rs) is = partFrom (classNumber (r .top)) (gather g is) ∷ pa
 abbrev pub cutBlock : Memory → List Item → Block (List ℕ)
 cutBlock m is = block (take (m .state .held) (m .times)) (partsFrom 0 (m .records) is)
 
--- each record's index is 0 again; its top class stays
+-- each record's index is 0 again; its top class and probe stay
 abbrev pub rewound : SignalRecord → SignalRecord
-rewound r = recordOf (r .kind) 0 (r .top)
+rewound r = recordOf (r .kind) 0 (r .top) (r .probe)
 
 -- one block more, of so many bytes; the next table has one time, and the work buffer is empty
 abbrev pub withCut : Encoder → (size : ℕ) → Encoder
@@ -76,38 +76,39 @@ cutOf m = cutItems m (itemsOf (m .state .work) (m .state .signals) (take (m .sta
 
 -- ---- time
 
--- a taken time joins the table and ends a skip
-abbrev pub timedState : Encoder → Encoder
-timedState s = withSkips (withHeld s (s .held + 1)) (skipEnded (s .skips))
+-- a taken time joins the table and ends the skip of its sender
+abbrev pub timedState : Encoder → (sender : ℕ) → Encoder
+timedState s p = withSkips (withHeld s (s .held + 1)) (onSkip skipEnded (s .skips) p)
 
-abbrev pub timed : Memory → ℕ → Memory
-timed m t = memory (timedState (m .state)) (m .records) (set (m .times) (m .state .held) t) (m .work) (m .image)
+abbrev pub timed : Memory → (sender t : ℕ) → Memory
+timed m p t = memory (timedState (m .state) p) (m .records) (set (m .times) (m .state .held) t) (m .work) (m .image)
 
--- document 02, (j): an equal time may end a skip
-abbrev pub sameTime : Encoder → Encoder
-sameTime s = withSkips s (skipSame (s .edition) (s .skips))
+-- document 02, (j): an equal time may end the skip of its sender
+abbrev pub sameTime : Encoder → (sender : ℕ) → Encoder
+sameTime s p = withSkips s (onSkip (skipSame (s .edition)) (s .skips) p)
 
-abbrev pub skipping : Encoder → Encoder
-skipping s = withSkips s (skipBegun (s .skips))
+abbrev pub skipping : Encoder → (sender : ℕ) → Encoder
+skipping s p = withSkips s (onSkip skipBegun (s .skips) p)
 
-abbrev pub timeCut : Memory → ℕ → Cut → After
-timeCut m t (noCut n) = refused m n
-timeCut m t (cuts b) = after (say taken) (timed (cutIn m b) t)
+abbrev pub timeCut : Memory → (sender t : ℕ) → Cut → After
+timeCut m p t (noCut n) = refused m n
+timeCut m p t (cuts b) = after (say taken) (timed (cutIn m b) p t)
 
--- a larger time is taken, after a cut if the table already holds B times; an equal one adds no time, and ends a skip in edition 2; a smaller
--- one starts a skip
-abbrev pub timeBy : Memory → ℕ → Way → After
-timeBy m t above = pick (eqb (m .state .held) (m .state .limit)) (timeCut m t (cutOf m)) (after (say taken) (timed m t))
-timeBy m t equal = after (say same) (withState m (sameTime (m .state)))
-timeBy m t below = after (say back) (withState m (skipping (m .state)))
+-- a larger time than the last, whoever sent that, is taken, after a cut if the table already holds B times; an equal one adds no time, and ends
+-- the skip of its sender in edition 2; a smaller one starts it
+abbrev pub timeBy : Memory → (sender t : ℕ) → Way → After
+timeBy m p t above = pick (eqb (m .state .held) (m .state .limit)) (timeCut m p t (cutOf m)) (after (say taken) (timed m p t))
+timeBy m p t equal = after (say same) (withState m (sameTime (m .state) p))
+timeBy m p t below = after (say back) (withState m (skipping (m .state) p))
 
-unfoldable pub timeOf : Memory → ℕ → After
-timeOf m t = guarded (openTests m) (refused m) (timeBy m t (wayOf (take (m .state .held) (m .times)) t))
+-- 2, 18, 10 (first group), then 10 (second group) and 8 of a cut
+unfoldable pub timeOf : Memory → (sender t : ℕ) → After
+timeOf m p t = guarded (openTests m (noProbe p)) (refused m) (timeBy m p t (wayOf (take (m .state .held) (m .times)) t))
 
 -- ---- change
 
-abbrev pub skippedOne : Encoder → Encoder
-skippedOne s = withSkips s (skipCounted (s .skips))
+abbrev pub skippedOne : Encoder → (sender : ℕ) → Encoder
+skippedOne s p = withSkips s (onSkip skipCounted (s .skips) p)
 
 -- the signal's record has the last time's index and a top class of at least c; the work buffer has the change's record
 abbrev pub recordedIn : Memory → (signal : ℕ) → (stream : List ℕ) → (c : ℕ) → Memory
@@ -115,7 +116,7 @@ recordedIn m g b c =
     let s = m .state in
     let r = recordAt m g in
     memory (withWork s (s .work + (8 + length b)))
-    (set (m .records) g (recordOf (r .kind) (s .held - 1) (statesOf (max (classNumber (r .top)) c))))
+    (set (m .records) g (recordOf (r .kind) (s .held - 1) (statesOf (max (classNumber (r .top)) c)) (r .probe)))
     (m .times)
     (sets (m .work) (s .work) (itemBytes (item g b)))
     (m .image)
@@ -127,13 +128,14 @@ changeBy m g (accept a c) =
     let b = changeBytes (recordAt m g .kind) (m .state .held - 1 - recordAt m g .index) a in
     guarded (roomTests (m .state) (recordAt m g) (length (m .work)) (length b)) (refused m) (after (say recorded) (recordedIn m g b c))
 
--- 2, 10 (first group), 3, skip, 4, 5, 6, 10 (second group), 7
-unfoldable pub changeOf : Memory → (signal : ℕ) → Given → After
-changeOf m g v =
-    guarded (openTests m) (refused m)
+-- 2, 18 of the sender, 10 (first group), 3, the sender's skip, 4, 18 of the record, 5, 6, 10 (second group), 7. It falls at the last time,
+-- whoever sent that
+unfoldable pub changeOf : Memory → (sender signal : ℕ) → Given → After
+changeOf m p g v =
+    guarded (openTests m (noProbe p)) (refused m)
     (guarded (earlyTests (m .state)) (refused m)
-    (pick (m .state .skips .on) (after (say skipped) (withState m (skippedOne (m .state))))
-    (guarded (signalTests (m .state) (recordAt m g) g) (refused m)
+    (pick (skipOf (m .state .skips) p .on) (after (say skipped) (withState m (skippedOne (m .state) p)))
+    (guarded (signalTests (m .state) (recordAt m g) p g) (refused m)
     (changeBy m g (decode (recordAt m g .kind) v)))))
 
 -- ---- finish
@@ -148,14 +150,14 @@ abbrev pub finishCut : Memory → Cut → After
 finishCut m (noCut n) = refused m n
 finishCut m (cuts b) = closing (cutIn m b)
 
--- cuts if any time is held, and closes; it answers the total bytes
+-- cuts if any time is held, and closes; it answers the total bytes. It names no sender, so none is foreign
 unfoldable pub finishOf : Memory → After
-finishOf m = guarded (openTests m) (refused m) (pick (eqb (m .state .held) 0) (closing m) (finishCut m (cutOf m)))
+finishOf m = guarded (openTests m false) (refused m) (pick (eqb (m .state .held) 0) (closing m) (finishCut m (cutOf m)))
 
 -- ---- start
 
 abbrev pub fresh : SignalRecord → SignalRecord
-fresh r = recordOf (r .kind) 0 Two
+fresh r = recordOf (r .kind) 0 Two (r .probe)
 
 abbrev pub kindIn : SignalRecord → SignalEncoding
 kindIn r = r .kind
@@ -163,10 +165,10 @@ kindIn r = r .kind
 abbrev pub kindsOf : List SignalRecord → List SignalEncoding
 kindsOf = map kindIn
 
--- a head with N = 0 and total 16 + 4S, each record's index and class 0
+-- a head with N = 0 and total 16 + 4S, each record's index and class 0; its kind and probe stay
 unfoldable pub startOf : Settings → Memory → After
 startOf settings m =
-    guarded (startTests settings (length (m .records)) (unknownKind (m .records)) (length (m .times)) (length (m .image))) (refused m)
+    guarded (startTests settings (length (m .records)) (anyBad (m .records)) (length (m .times)) (length (m .image))) (refused m)
     (after started
     (memory (startState settings)
     (map fresh (m .records)) (m .times) (m .work)
@@ -175,8 +177,8 @@ startOf settings m =
 -- ---- lists of calls
 
 unfoldable pub step : Memory → Call → After
-step m (time t) = timeOf m t
-step m (change g v) = changeOf m g v
+step m (time p t) = timeOf m p t
+step m (change p g v) = changeOf m p g v
 step m finish = finishOf m
 
 pub record Ran : Type 0 where

@@ -1,17 +1,18 @@
-// What becomes of a skip, and the states that are made whole: code that changes a field or two names these and not every field.
+// What becomes of a skip, whose it is, and the states that are made whole: code that changes a field or two names these and not every field.
 use crate::EDITION_2;
 use crate::Encoder;
 use crate::ProbeSkip;
 use crate::Settings;
+use crate::Skips;
 use image::layout::head_size;
 ghost use mathlib.Core.Path.{_≡_};
 ghost use Prim.Native.Nat.{_≤_};
-ghost use Rattle.recording.specs.State.{noSkips, skipBegun, skipEnded, skipSame, skipCounted, startState};
+ghost use Rattle.recording.specs.State.{noSkip, skipBegun, skipEnded, skipSame, skipCounted, noSkips, skipOf, withSkip, startState};
 
 impl ProbeSkip {
     // At a start.
     pub fn none() -> ProbeSkip
-        ensures { λ r. ⌜ r ≡ noSkips ⌝ }
+        ensures { λ r. ⌜ r ≡ noSkip ⌝ }
     {
         ProbeSkip {
             on: false,
@@ -61,6 +62,40 @@ impl ProbeSkip {
     }
 }
 
+impl Skips {
+    // At a start.
+    pub fn none() -> Skips
+        ensures { λ r. ⌜ r ≡ noSkips ⌝ }
+    {
+        Skips {
+            zero: ProbeSkip::none(),
+            one: ProbeSkip::none(),
+        }
+    }
+
+    // A sender's.
+    pub fn of(self, sender: u32) -> ProbeSkip
+        ensures { λ r. ⌜ r ≡ skipOf self sender ⌝ }
+    {
+        if sender == 0 {
+            return self.zero;
+        }
+        self.one
+    }
+
+    // The sender's becomes this one; the other probe's stays.
+    pub fn with(self, sender: u32, skip: ProbeSkip) -> Skips
+        ensures { λ r. ⌜ r ≡ withSkip self sender skip ⌝ }
+    {
+        if sender == 0 {
+            let one = self.one;
+            return Skips { zero: skip, one };
+        }
+        let zero = self.zero;
+        Skips { zero, one: skip }
+    }
+}
+
 impl Encoder {
     // As a start leaves it: no times and no blocks; of the image its head is used.
     pub fn started(settings: Settings) -> Encoder
@@ -77,7 +112,7 @@ impl Encoder {
             image,
             blocks: 0,
             edition: settings.edition,
-            skips: ProbeSkip::none(),
+            skips: Skips::none(),
         }
     }
 }

@@ -2,4 +2,4 @@ pub mod Rows
 pub mod Upto
 pub mod Again
 pub mod Shared
-pub mod UnknownLaws
+pub mod BadLaws

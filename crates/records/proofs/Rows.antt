@@ -29,7 +29,7 @@ use Rattle.recording.proofs.SignalRecord.Laws as T′
 
 -- what stands past the records
 abbrev pub blank : SignalRecord
-blank = recordOf Absent 0 Two
+blank = recordOf Absent 0 Two 0
 
 abbrev pub vals : SignalRecord → List Val
 vals = LL.vals T.the-type T′.the-laws

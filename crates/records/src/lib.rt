@@ -3,20 +3,19 @@
 // Each function moves whole records; what is decided of one record stands in functions by value.
 use recording::SignalRecord;
 use recording::absent_record;
+use recording::bad_record;
 use signal::SignalRef;
 use signal::kind::SignalEncoding;
-use signal::kind::known_kind;
 use value::states::States;
 ghost use mathlib.Core.Path.{_≡_};
-ghost use mathlib.Core.Bool.{_||_, not};
+ghost use mathlib.Core.Bool.{_||_};
 ghost use lib.ListN.{getD, set};
-ghost use Rattle.signal.specs.Kind.{knownKind};
 ghost use Rattle.recording.specs.Memory.{recordOf};
-ghost use Rattle.recording.specs.Refusals.{unknownKind};
+ghost use Rattle.recording.specs.Refusals.{badRecord, anyBad};
 
 // A signal's record; past the records stands an absent one.
 pub fn find_record(records: &[SignalRecord], signal: SignalRef) -> SignalRecord
-    ensures { λ r. ⌜ r ≡ getD (now (records .entry)) (signal .0) (recordOf SignalEncoding.Absent 0 States.Two) ⌝ }
+    ensures { λ r. ⌜ r ≡ getD (now (records .entry)) (signal .0) (recordOf SignalEncoding.Absent 0 States.Two 0) ⌝ }
 {
     let nothing = absent_record();
     let at = signal.0 as usize;
@@ -37,26 +36,25 @@ pub fn put_record(records: &mut [SignalRecord], signal: SignalRef, kept: SignalR
     }
 }
 
-// One record more: a kind before it, or its own, is one that no signal can have.
-fn or_unknown(before: bool, kept: SignalRecord) -> bool
-    ensures { λ r. ⌜ r ≡ (before || not (knownKind (kept .kind))) ⌝ }
+// One record more: a start refuses one before it, or this one.
+fn or_bad(before: bool, kept: SignalRecord) -> bool
+    ensures { λ r. ⌜ r ≡ (before || badRecord kept) ⌝ }
 {
     if before {
         return true;
     }
-    let kind = kept.kind;
-    !known_kind(kind)
+    bad_record(kept)
 }
 
-// A record has a kind that no signal can have.
-pub fn has_unknown_kind(records: &[SignalRecord]) -> bool
-    ensures { λ r. ⌜ r ≡ unknownKind (now (records .entry)) ⌝ }
+// A start refuses one of the records: it has a kind that no signal can have, or names no probe.
+pub fn has_bad_record(records: &[SignalRecord]) -> bool
+    ensures { λ r. ⌜ r ≡ anyBad (now (records .entry)) ⌝ }
 {
-    let mut unknown = false;
+    let mut bad = false;
     let mut i = 0;
     while i < records.len() {
-        unknown = or_unknown(unknown, records[i]);
+        bad = or_bad(bad, records[i]);
         i += 1;
     }
-    unknown
+    bad
 }

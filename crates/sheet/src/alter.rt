@@ -4,6 +4,7 @@ use crate::run::FIELDS;
 use crate::run::FINISH;
 use crate::run::Run;
 use crate::run::START;
+use crate::run::is_named;
 use crate::run::lend;
 use crate::run::put_call;
 use crate::run::take_line;
@@ -54,15 +55,18 @@ fn take_lend(run: &mut Run, line: &[u8]) -> u64 {
 fn field_of(name: &[u8]) -> usize {
     place_of(
         name,
-        b"closed limit signals held work image blocks skip skipped edition",
+        b"closed limit signals held work image blocks skip skipped edition skip_1 skipped_1",
         FIELDS,
     )
 }
 
-// `start S B KIND ..`.
+// `start S B KIND ..`; nothing where there is another count of kinds than of the probes that were named.
 fn take_start(run: &mut Run, line: &[u8]) -> u64 {
-    put_call(run, START, number_at(line, 1), number_at(line, 2));
-    MAKE
+    if is_named(&*run, line) {
+        put_call(run, START, number_at(line, 1), number_at(line, 2));
+        return MAKE;
+    }
+    NOTHING
 }
 
 // `set FIELD N`; false is 0.

@@ -1,10 +1,12 @@
 // What is printed.
 use crate::run::ANSWER;
+use crate::run::BOTH;
 use crate::run::FINISHED;
 use crate::run::NUMBER;
 use crate::run::REFUSED;
 use crate::run::Run;
 use crate::run::SKIPPED;
+use crate::run::SKIPPED_1;
 use line::words::word;
 use text::before;
 use text::print;
@@ -24,6 +26,14 @@ fn print_word(answer: u64) {
     ));
 }
 
+// How many changes were skipped; of probe 1 only where a record names it.
+fn print_skipped(run: &Run) {
+    print_count(b" skipped ", run[SKIPPED]);
+    if run[BOTH] != 0 {
+        print_count(b" ", run[SKIPPED_1]);
+    }
+}
+
 // The answer of the last call, without a line feed.
 pub fn print_answer(run: &Run) {
     let answer = run[ANSWER];
@@ -33,7 +43,7 @@ pub fn print_answer(run: &Run) {
     }
     print_count(b" ", run[NUMBER]);
     if answer == FINISHED {
-        print_count(b" skipped ", run[SKIPPED]);
+        print_skipped(run);
     }
 }
 

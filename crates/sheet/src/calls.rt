@@ -1,5 +1,6 @@
 // The recorder's calls, each by its number in a run.
 use crate::run::FINISH;
+use crate::run::Given;
 use crate::run::RAW;
 use crate::run::START;
 use crate::run::TIME;
@@ -13,10 +14,7 @@ use flat_changes::real_change;
 use flat_changes::vcd_value_change;
 use recording::Encoder;
 use recording::Outcome;
-use recording::Settings;
-use recording::Stamp;
 use recording::Target;
-use signal::SignalRef;
 
 // Makes a change. The number is the claim of a raw value, or the bits of a real.
 fn change(
@@ -48,12 +46,10 @@ fn change(
     }
 }
 
-// Makes a call with its two numbers, a start with its settings; value is the text of a VCD value, or the bytes of a raw one.
+// Makes a call with what it is given; value is the text of a VCD value, or the bytes of a raw one.
 pub fn perform(
     call: u64,
-    settings: Settings,
-    first: u64,
-    second: u64,
+    given: Given,
     value: &[u8],
     state: Encoder,
     records: &mut [u64],
@@ -62,20 +58,21 @@ pub fn perform(
     image: &mut [u8],
 ) -> Outcome {
     match call {
-        START => start(state, settings, records, &*times, image),
+        START => {
+            let settings = given.settings;
+            start(state, settings, records, &*times, image)
+        }
         TIME => {
-            let stamp = Stamp { time: first };
+            let stamp = given.stamp;
             time_change(state, records, times, &*work, image, stamp)
         }
         FINISH => finish(state, records, times, &*work, image),
         _ => {
-            let target = Target {
-                signal: SignalRef(low(first)),
-            };
+            let target = given.target;
             change(
                 call,
                 target,
-                second,
+                given.number,
                 value,
                 state,
                 records,

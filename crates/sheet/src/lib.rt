@@ -5,23 +5,24 @@ pub mod answer;
 mod calls;
 mod checksum;
 mod make;
-mod record;
+pub mod record;
 pub mod run;
 pub mod tests;
 
 use calls::perform;
 use line::words::after;
+use record::names_one;
+use run::BOTH;
 use run::CALL;
-use run::FIRST;
 use run::IMAGE;
 use run::RAW;
 use run::RECORDS;
 use run::Run;
-use run::SECOND;
 use run::TIMES;
 use run::WORK;
+use run::flag;
+use run::given_of;
 use run::put_outcome;
-use run::settings_of;
 use run::state_of;
 ghost use Prim.Native.Nat.{_≤_};
 ghost use lib.ListN.{length};
@@ -55,16 +56,14 @@ pub fn make_call(
     image: &mut [u8],
 ) {
     let state = state_of(&*run);
-    let settings = settings_of(&*run);
+    let given = given_of(&*run);
     let r = run[RECORDS];
     let t = run[TIMES];
     let w = run[WORK];
     let i = run[IMAGE];
     let outcome = perform(
         run[CALL],
-        settings,
-        run[FIRST],
-        run[SECOND],
+        given,
         value,
         state,
         lent_numbers(records, r),
@@ -73,6 +72,11 @@ pub fn make_call(
         lent_bytes(image, i),
     );
     put_outcome(run, outcome)
+}
+
+// Says whether a record of the recording names probe 1, for the answer of a finish.
+pub fn mark_probes(run: &mut Run, records: &[u64]) {
+    run[BOTH] = flag(names_one(records, run[RECORDS]));
 }
 
 // The digits of a line's value, where values are given in hexadecimal.

@@ -2,6 +2,7 @@
 use crate::answer::print_made;
 use crate::checksum::checksum;
 use crate::make_call;
+use crate::mark_probes;
 use crate::record::no_records;
 use crate::record::put_records;
 use crate::run::ANSWER;
@@ -11,6 +12,7 @@ use crate::run::RECORDS;
 use crate::run::Run;
 use crate::run::START;
 use crate::run::STARTED;
+use crate::run::probes_of;
 use crate::value_digits;
 use line::hex::put_hex;
 use text::before;
@@ -26,6 +28,7 @@ fn make_held(
 ) {
     let sum = checksum(&*run, &*records, &*times, &*work, &*image);
     make_call(run, value, records, times, work, image);
+    mark_probes(run, &*records);
     let moved = sum != checksum(&*run, &*records, &*times, &*work, &*image);
     print_made(&*run, moved, &*image)
 }
@@ -46,7 +49,7 @@ fn begin(run: &mut Run, line: &[u8], records: &mut [u64], saved: &mut [u64]) {
     if run[CALL] == START {
         copy(&*records, saved);
         run[KEPT] = run[RECORDS];
-        run[RECORDS] = put_records(records, line) as u64;
+        run[RECORDS] = put_records(records, line, probes_of(&*run)) as u64;
     }
 }
 

@@ -2,7 +2,7 @@
 -- Assumes nothing.
 use Prim.Native.Nat.{ℕ, zero, suc, _+_, _*_, _/_, _%_, _^_, _≤_, _<_}
 use mathlib.Core.Path.{_≡_, refl, sym, ap, ap₂, _∙_}
-use mathlib.Core.Bool.{Bool, false, not, _||_}
+use mathlib.Core.Bool.{Bool, false, _||_}
 use mathlib.Core.List.{List, [], _∷_, map}
 use native.Mathlib.Omega.{arith}
 use lib.ListN.{length, getD, set, drop}
@@ -11,14 +11,13 @@ use Rattle.value.specs.Class.{classNumber, statesOf}
 use Rattle.value.proofs.ClassLaws.{number-states, states-number, number-small}
 use Rattle.value.specs.declared.states.States.{States}
 use Rattle.value.specs.declared.states.States.the-variants.{Two}
-use Rattle.signal.specs.Kind.{knownKind}
 use Rattle.signal.specs.declared.kind.SignalEncoding.the-variants.{Absent}
 use Rattle.image.specs.Head.{kindNumber, kindFrom}
 use Rattle.image.proofs.KindLaws.{kind-number}
 use Rattle.recording.specs.declared.SignalRecord.{SignalRecord}
 use Rattle.recording.specs.Memory.{recordOf}
 use Rattle.recording.specs.Step.{fresh, rewound}
-use Rattle.recording.specs.Refusals.{unknownKind}
+use Rattle.recording.specs.Refusals.{badRecord, anyBad}
 use Rattle.storage.specs.Storage.{recordFrom, numberFrom, recordsOf, Storable}
 
 -- ---- one record
@@ -31,29 +30,41 @@ pub record-number : (r : SignalRecord) → Storable r → recordFrom (numberFrom
 unfolding recordFrom numberFrom
 record-number r s =
     let k : ℕ = kindNumber (r .kind) in
-    let h : ℕ = 3 * r .index + classNumber (r .top) in
+    let c : ℕ = 3 * r .index + classNumber (r .top) in
+    let h : ℕ = r .probe + 256 * c in
     let low : (k + 4294967296 * h) % 4294967296 ≡ k = omega (arith, s .1) in
     let high : (k + 4294967296 * h) / 4294967296 ≡ h = omega (arith, s .1) in
-    let index : h / 3 ≡ r .index = omega (arith, number-small (r .top)) in
-    let class : h % 3 ≡ classNumber (r .top) = omega (arith, number-small (r .top)) in
-    rw (low, high, index, class, s .0, states-number (r .top)) refl
+    let probe : h % 256 ≡ r .probe = omega (arith, s .1) in
+    let counted : h / 256 ≡ c = omega (arith, s .1) in
+    let index : c / 3 ≡ r .index = omega (arith, number-small (r .top)) in
+    let class : c % 3 ≡ classNumber (r .top) = omega (arith, number-small (r .top)) in
+    rw (low, high, probe, counted, index, class, s .0, states-number (r .top)) refl
 
 pub number-record : (n : ℕ) → numberFrom (recordFrom n) ≡ n
 unfolding recordFrom numberFrom
-number-record n = rw (kind-number (n % 4294967296), class-number (n / 4294967296)) (omega arith)
+number-record n = rw (kind-number (n % 4294967296), class-number (n / 4294967296 / 256)) (omega arith)
+
+-- a kind's number alone is a fresh record of probe 0
+pub kind-alone : (n : ℕ) → n < 4294967296 → recordFrom n ≡ recordOf (kindFrom n) 0 Two 0
+unfolding recordFrom
+kind-alone n h =
+    let low : n % 4294967296 ≡ n = omega arith in
+    let high : n / 4294967296 ≡ 0 = omega arith in
+    rw (low, high) refl
 
 pub stored : (n : ℕ) → n < 2 ^ 64 → Storable (recordFrom n)
 unfolding recordFrom
 stored n h =
     let e = kind-number (n % 4294967296) in
-    (ap kindFrom e, rw e (omega arith), rw (class-number (n / 4294967296)) (omega arith))
+    (ap kindFrom e, rw e (omega arith), rw (class-number (n / 4294967296 / 256)) (omega arith), omega arith)
 
 -- a storable record with another index and class
-pub storable-with : (r : SignalRecord) (i : ℕ) (t : States) → Storable r → 3 * i + 2 < 4294967296 → Storable (recordOf (r .kind) i t)
-storable-with r i t s h = (s .0, s .1, omega (arith, number-small t))
+pub storable-with : (r : SignalRecord) (i : ℕ) (t : States) → Storable r → 3 * i + 2 < 16777216
+    → Storable (recordOf (r .kind) i t (r .probe))
+storable-with r i t s h = (s .0, s .1, omega (arith, number-small t), s .3)
 
-pub storable-absent : Storable (recordOf Absent 0 Two)
-storable-absent = (refl, omega arith, omega arith)
+pub storable-absent : Storable (recordOf Absent 0 Two 0)
+storable-absent = (refl, omega arith, omega arith, omega arith)
 
 pub storable-fresh : (r : SignalRecord) → Storable r → Storable (fresh r)
 storable-fresh r s = storable-with r 0 Two s (omega arith)
@@ -94,17 +105,17 @@ records-set (x ∷ l) (suc i) n = ap (λ (t : List SignalRecord). recordFrom x �
 pub record-stored : (l : List ℕ) (i n : ℕ) (r : SignalRecord) → Storable r → n ≡ numberFrom r → recordsOf (set l i n) ≡ set (recordsOf l) i r
 record-stored l i n r s e = records-set l i n ∙ ap (set (recordsOf l) i) (ap recordFrom e ∙ record-number r s)
 
--- ---- an unknown kind
+-- ---- a record that a start refuses
 
-pub unknown-none : (l : List ℕ) (i : ℕ) → length l ≤ i → unknownKind (recordsOf (drop i l)) ≡ false
-unfolding unknownKind
-unknown-none [] zero h = refl
-unknown-none [] (suc i) h = refl
-unknown-none (n ∷ l) zero h = absurd (omega arith)
-unknown-none (n ∷ l) (suc i) h = unknown-none l i (omega arith)
+pub bad-none : (l : List ℕ) (i : ℕ) → length l ≤ i → anyBad (recordsOf (drop i l)) ≡ false
+unfolding anyBad
+bad-none [] zero h = refl
+bad-none [] (suc i) h = refl
+bad-none (n ∷ l) zero h = absurd (omega arith)
+bad-none (n ∷ l) (suc i) h = bad-none l i (omega arith)
 
--- r is the record at i, t says that its kind is known
-pub unknown-next : (l : List ℕ) (i : ℕ) (r : SignalRecord) (t : Bool) → i < length l → r ≡ recordFrom (getD l i 0) → t ≡ knownKind (r .kind)
-    → unknownKind (recordsOf (drop i l)) ≡ (not t || unknownKind (recordsOf (drop (suc i) l)))
-unfolding unknownKind
-unknown-next l i r t h e k = rw (drop-cons l i 0 h, k, e) refl
+-- r is the record at i, t says whether it is bad
+pub bad-next : (l : List ℕ) (i : ℕ) (r : SignalRecord) (t : Bool) → i < length l → r ≡ recordFrom (getD l i 0) → t ≡ badRecord r
+    → anyBad (recordsOf (drop i l)) ≡ (t || anyBad (recordsOf (drop (suc i) l)))
+unfolding anyBad
+bad-next l i r t h e k = rw (drop-cons l i 0 h, k, e) refl

@@ -1,5 +1,6 @@
--- How a signal's record is stored as a number of 64 bits: its kind's number, and above that three times its index plus its class.
--- Every number of 64 bits is a record, and no two are the same one (proofs/StorageLaws).
+-- How a signal's record is stored as a number of 64 bits: its kind's number, above that its probe, and above that three times its index plus its
+-- class. So a kind's number alone is a fresh record of probe 0. Every number of 64 bits is a record, and no two are the same one, also those of
+-- a probe that no record of a recording can name (proofs/StorageLaws).
 -- Assumes nothing.
 use Prim.Native.Nat.{ℕ, _+_, _*_, _/_, _%_, _<_}
 use mathlib.Core.Path.{_≡_}
@@ -10,16 +11,20 @@ use Rattle.recording.specs.declared.SignalRecord.{SignalRecord}
 use Rattle.recording.specs.Memory.{recordOf}
 
 unfoldable pub recordFrom : ℕ → SignalRecord
-recordFrom n = recordOf (kindFrom (n % 4294967296)) (n / 4294967296 / 3) (statesOf (n / 4294967296 % 3))
+recordFrom n =
+    let high : ℕ = n / 4294967296 in
+    recordOf (kindFrom (n % 4294967296)) (high / 256 / 3) (statesOf (high / 256 % 3)) (high % 256)
 
 unfoldable pub numberFrom : SignalRecord → ℕ
-numberFrom r = kindNumber (r .kind) + 4294967296 * (3 * r .index + classNumber (r .top))
+numberFrom r = kindNumber (r .kind) + 4294967296 * (r .probe + 256 * (3 * r .index + classNumber (r .top)))
 
 -- the records of a lent run of numbers
 abbrev pub recordsOf : List ℕ → List SignalRecord
 recordsOf = map recordFrom
 
--- a record that can be stored: its kind is one that a number of 32 bits stands for, and its index and class fit the other 32
+-- a record that can be stored: its kind is one that a number of 32 bits stands for, its probe fits 8 of the others, and its index and class the
+-- 24 that are left
 abbrev pub Storable : SignalRecord → Type 0
 Storable r =
-    (kindFrom (kindNumber (r .kind)) ≡ r .kind) × (kindNumber (r .kind) < 4294967296) × (3 * r .index + classNumber (r .top) < 4294967296)
+    (kindFrom (kindNumber (r .kind)) ≡ r .kind) × (kindNumber (r .kind) < 4294967296) × (3 * r .index + classNumber (r .top) < 16777216)
+    × (r .probe < 256)

@@ -5,6 +5,7 @@ use line::words::after;
 use sheet::answer::print_answer;
 use sheet::line_end;
 use sheet::make_call;
+use sheet::mark_probes;
 use sheet::run::CALL;
 use sheet::run::CLOSED;
 use sheet::run::LIMIT;
@@ -16,6 +17,7 @@ use sheet::run::RECORDS;
 use sheet::run::Run;
 use sheet::run::START;
 use sheet::run::TOTAL;
+use sheet::run::probes_of;
 use sheet::run::take_line;
 use text::before;
 use text::between;
@@ -73,10 +75,10 @@ fn is_handed_on(run: &Run) -> bool {
     true
 }
 
-// The records of a start.
+// The records of a start, with the probes that were named for them.
 fn put_start(run: &mut Run, records: &mut [u64], line: &[u8]) {
     if run[CALL] == START {
-        run[RECORDS] = put_kinds(records, line) as u64;
+        run[RECORDS] = put_kinds(records, line, probes_of(&*run)) as u64;
     }
 }
 
@@ -114,6 +116,7 @@ fn take_call(
     let n = put_raw(&*run, &mut bytes, line);
     let handed = value(&*run, before(&bytes, n), line);
     make_call(run, handed, records, times, work, image);
+    mark_probes(run, &*records);
     say_answer(&*run)
 }
 

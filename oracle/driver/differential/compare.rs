@@ -1,7 +1,7 @@
 //! One recording on all sides: the Rust, the wave memory, documents 01 and 02 read a second time, and the history of the calls.
 
 use crate::history::{History, Load};
-use crate::memory::{Answer, BYTE, Memory, NUMBER, Recording, TIME, difference, step_line};
+use crate::memory::{Answer, BYTE, Memory, NUMBER, Recording, Skip, TIME, difference, named};
 use crate::opener::opened;
 use crate::ours::{self, Source};
 use crate::paper;
@@ -14,8 +14,10 @@ pub struct Tally {
     pub recordings: u64,
     pub several_blocks: u64,
     pub calls: u64,
-    /// Times equal to the last one, right after one that went back.
+    /// Skips that an equal time ended.
     pub returned: u64,
+    /// Changes of one probe that were recorded in a skip of the other.
+    pub beside: u64,
     pub blocks: u64,
     pub signals: u64,
     pub entries: u64,
@@ -23,6 +25,21 @@ pub struct Tally {
     /// Those before the first change of a signal that has some.
     pub early: u64,
     pub reader_refusals: u64,
+}
+
+impl Tally {
+    /// Of a call that was made: the skips before it.
+    fn count(&mut self, edition: u32, step: &Step, answer: Answer, skips: [Skip; 2]) {
+        self.calls += 1;
+        let Some(probe) = step.sender().map(|sender| sender as usize) else {
+            return;
+        };
+        match answer {
+            Answer::Same if edition == 2 => self.returned += u64::from(skips[probe].on),
+            Answer::Recorded => self.beside += u64::from(skips[1 - probe].on),
+            _ => {}
+        }
+    }
 }
 
 pub type Compared = Result<(), String>;
@@ -44,11 +61,12 @@ fn needs(r: &Recording) -> Option<(usize, usize)> {
     let change = 32 + *widest.unwrap_or(&0) as usize / 2;
     let work = change * r.steps.len();
     let image = 16 + 4 * r.kinds.len() + (40 + 5 * r.kinds.len() + change) * r.steps.len();
-    let mut m = Memory::fresh(&r.kinds, r.limit as usize, work, image);
+    let mut m = Memory::lent(r, r.limit as usize, work, image);
     paper::start(&mut m, r.limit.into(), r.kinds.len() as u32, r.edition).ok()?;
     let mut most = 0;
     for step in &r.steps {
-        if !m.state.skip && paper::left_out(&r.kinds, step) {
+        let skip = step.sender().and_then(|sender| m.state.skips.get(sender as usize));
+        if skip.is_some_and(|skip| !skip.on) && paper::left_out(&r.kinds, step) {
             return None;
         }
         paper::step(&mut m, step).ok()?;
@@ -67,7 +85,12 @@ fn both(m: &mut Memory, other: &mut Memory, step: &Step) -> Result<Answer, Strin
 
 /// Makes all calls on ours, holding each answer and the memory after each call against the papers, and each answer against the
 /// history. The memory is compared after every `every`-th call, and at the end.
-fn made(r: &Recording, mut m: Memory, every: usize) -> Result<(Memory, Vec<Answer>, History), String> {
+pub fn made(
+    r: &Recording,
+    mut m: Memory,
+    every: usize,
+    tally: &mut Tally,
+) -> Result<(Memory, Vec<Answer>, History), String> {
     let mut other = m.clone();
     let (limit, signals) = (u32::from(r.limit), r.kinds.len() as u32);
     let answer = ours::start(&mut m, limit, signals, r.edition);
@@ -76,8 +99,9 @@ fn made(r: &Recording, mut m: Memory, every: usize) -> Result<(Memory, Vec<Answe
     let mut history = History::new(r.edition, &r.kinds);
     let mut answers = Vec::new();
     for (number, step) in r.steps.iter().enumerate() {
-        let at = || format!("call {} ({:.60})", number + 1, step_line(step));
+        let at = || format!("call {} ({:.60})", number + 1, named(step));
         let answer = both(&mut m, &mut other, step).map_err(|e| format!("{}: {e}", at()))?;
+        tally.count(r.edition, step, answer, history.skips);
         if let Some(told) = history.tell(step, answer.refused()) {
             agree("answer of ours and of the history", answer, told).map_err(|e| format!("{}: {e}", at()))?;
         }
@@ -86,7 +110,8 @@ fn made(r: &Recording, mut m: Memory, every: usize) -> Result<(Memory, Vec<Answe
         }
         answers.push(answer);
     }
-    agree("skipped count", m.state.skipped, history.count)?;
+    let counts = |skips: [Skip; 2]| skips.map(|skip| skip.count);
+    agree("skipped counts", counts(m.state.skips), counts(history.skips))?;
     Ok((m, answers, history))
 }
 
@@ -132,8 +157,11 @@ fn load(source: Source, signal: usize, expected: &Load) -> Compared {
     Ok(())
 }
 
-fn room_for(kind: u32) -> usize {
-    if kind == REAL { 0 } else { kind as usize }
+pub fn room_for(kind: u32) -> usize {
+    match kind {
+        REAL | ABSENT => 0,
+        width => width as usize,
+    }
 }
 
 /// Each loaded entry by its bytes.
@@ -298,7 +326,10 @@ pub fn rust(rust: &Whole, image: &[u8], kinds: &[u32], history: &History) -> Com
 
 /// The Rust has no claim above 2 and no signal 2^32 - 1; without a refusal these come only in a skip.
 fn askable(step: &Step) -> bool {
-    !matches!(step, Step::Change(u32::MAX, _) | Step::Change(_, Value::Raw(3.., _)))
+    !matches!(
+        step,
+        Step::Change(_, u32::MAX, _) | Step::Change(.., Value::Raw(3.., _))
+    )
 }
 
 /// The Rust on the calls that were not refused: its answers, the image, and what it loads.
@@ -306,7 +337,7 @@ fn with_rust(r: &Recording, answers: &[Answer], image: &[u8], history: &History)
     let asked = |(step, answer): &(&Step, &Answer)| !answer.refused() && askable(step);
     let given = || r.steps.iter().zip(answers).filter(asked);
     let steps: Vec<Step> = given().map(|(step, _)| step.clone()).collect();
-    let made = whole(r.edition, r.limit, &r.kinds, &steps).ok_or("the Rust panics")?;
+    let made = whole(r.edition, r.limit, &r.kinds, &r.probes, &steps).ok_or("the Rust panics")?;
     let changes = given().filter(|(step, _)| **step != Step::Finish);
     let words: Vec<&str> = changes.map(|(_, answer)| answer.word()).collect();
     none(
@@ -316,16 +347,8 @@ fn with_rust(r: &Recording, answers: &[Answer], image: &[u8], history: &History)
     rust(&made, image, &r.kinds, history)
 }
 
-/// How often a time went back and the next one was the last one again.
-fn returned(answers: &[Answer]) -> u64 {
-    let of_time = |answer: &Answer| matches!(answer, Answer::Taken | Answer::Same | Answer::Back);
-    let times: Vec<Answer> = answers.iter().copied().filter(of_time).collect();
-    let returns = times.windows(2).filter(|pair| **pair == [Answer::Back, Answer::Same]);
-    returns.count() as u64
-}
-
-/// A recording whose calls may be refused, on lent memory. The Rust is asked in edition 1, the only one that it knows; of edition 2, "the same
-/// opener accepts" the image. Answers the image, if there is one.
+/// A recording whose calls may be refused, on lent memory. The Rust is asked in edition 1 and of probe 0, which it knows alone; of the others,
+/// "the same opener accepts" the image. Answers the image, if there is one.
 pub fn on_memory(
     r: &Recording,
     m: Memory,
@@ -333,15 +356,13 @@ pub fn on_memory(
     random: &mut Random,
     tally: &mut Tally,
 ) -> Result<Option<Vec<u8>>, String> {
-    let (m, answers, history) = made(r, m, every)?;
-    tally.calls += r.steps.len() as u64;
-    tally.returned += returned(&answers);
+    let (m, answers, history) = made(r, m, every, tally)?;
     let Some(Answer::Finished(total)) = answers.iter().find(|a| matches!(a, Answer::Finished(_))) else {
         return Ok(None);
     };
     let image = &m.image[..*total as usize];
     read(image, &r.kinds, &history, random, tally)?;
-    if r.edition == 1 {
+    if r.for_rust() {
         with_rust(r, &answers, image, &history)?;
     } else {
         agree("opener by the papers", opened(image).is_some(), true)?;
@@ -357,7 +378,7 @@ pub fn recording(r: &Recording, every: usize, random: &mut Random, tally: &mut T
     let (work, image) = needs(r).ok_or("a call is refused, or left out of what the Rust is given")?;
     let times = r.limit as usize + random.of(&[0, 0, 1, 3]);
     let (work, image) = (work + random.of(&[0, 0, 1, 9]), image + random.of(&[0, 0, 1, 9]));
-    let m = Memory::fresh(&r.kinds, times, work, image);
+    let m = Memory::lent(r, times, work, image);
     on_memory(r, m, every, random, tally)?.ok_or("no finish".to_string())
 }
 

@@ -169,7 +169,8 @@ fn double_edit(image: &[u8], random: &mut Random) -> Vec<u8> {
 
 /// What a recording leaves.
 fn left(r: &Recording) -> Vec<u8> {
-    whole(r.edition, r.limit, &r.kinds, &r.steps).expect("no refusal").image
+    let made = whole(r.edition, r.limit, &r.kinds, &r.probes, &r.steps);
+    made.expect("no refusal").image
 }
 
 /// One recording, often of several blocks.
@@ -179,12 +180,7 @@ fn lone(random: &mut Random) -> Vec<u8> {
     let calls = random.from_to(2, 16);
     let mut generator = Generator::new(random, kinds);
     let steps = generator.calls(calls, 40);
-    left(&Recording {
-        edition: generator.edition,
-        limit,
-        kinds: generator.kinds,
-        steps,
-    })
+    left(&generator.recording(limit, steps))
 }
 
 /// Two or three recordings joined, as far as they can be.

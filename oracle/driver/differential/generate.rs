@@ -1,4 +1,4 @@
-//! Random recordings: kinds, times that rise, stay and go back, changes in all notations, repeats, claims.
+//! Random recordings: kinds, times that rise, stay and go back, changes in all notations, repeats, claims, one probe or two.
 
 use crate::memory::Recording;
 use crate::random::Random;
@@ -35,8 +35,13 @@ pub struct Generator<'a> {
     /// Of the skip rule.
     pub edition: u32,
     pub kinds: Vec<u32>,
+    /// Of the signals.
+    pub probes: Vec<u8>,
+    /// Whether probe 1 sends too; if not, nothing is drawn for it.
+    pub two: bool,
     pub last: Option<u64>,
-    pub skip: bool,
+    /// By probe.
+    skips: [bool; 2],
     /// The last time of the recording before.
     end: Option<u64>,
     /// A signal's last content.
@@ -48,18 +53,53 @@ impl<'a> Generator<'a> {
         Generator {
             random,
             edition: 1,
+            probes: vec![0; kinds.len()],
+            two: false,
             kinds,
             last: None,
-            skip: false,
+            skips: [false; 2],
             end: None,
             content: HashMap::new(),
+        }
+    }
+
+    /// With a probe for each signal, both sending.
+    pub fn of_two(random: &'a mut Random, kinds: Vec<u32>) -> Self {
+        let probes = probes(random, kinds.len());
+        Generator {
+            probes,
+            two: true,
+            ..Generator::new(random, kinds)
+        }
+    }
+
+    /// What was generated, as a recording.
+    pub fn recording(&self, limit: u16, steps: Vec<Step>) -> Recording {
+        Recording {
+            edition: self.edition,
+            limit,
+            kinds: self.kinds.clone(),
+            probes: self.probes.clone(),
+            steps,
         }
     }
 
     /// A new recording. Contents are kept, so that the first values are often repeats.
     pub fn restart(&mut self) {
         self.end = self.last.or(self.end);
-        (self.last, self.skip) = (None, false);
+        (self.last, self.skips) = (None, [false; 2]);
+    }
+
+    fn sender(&mut self) -> u32 {
+        if self.two { self.random.below(2) as u32 } else { 0 }
+    }
+
+    /// Now and then no probe.
+    fn any_sender(&mut self) -> u32 {
+        if self.two && self.random.chance(6) {
+            return self.random.of(&[2, 3, 256, u32::MAX]);
+        }
+        self.sender()
     }
 
     fn first_time(&mut self) -> u64 {
@@ -103,33 +143,55 @@ impl<'a> Generator<'a> {
                 _ => self.earlier(last),
             },
         };
+        let sender = self.sender();
+        let skip = &mut self.skips[sender as usize];
         match self.last {
-            Some(last) if time < last => self.skip = true,
-            Some(last) if time == last => self.skip = self.skip && self.edition == 1,
-            _ => (self.last, self.skip) = (Some(time), false),
+            Some(last) if time < last => *skip = true,
+            Some(last) if time == last => *skip = *skip && self.edition == 1,
+            _ => (self.last, *skip) = (Some(time), false),
         }
-        Step::Time(time)
+        Step::Time(sender, time)
     }
 
-    /// A change that is recorded, or skipped in a skip; a time where no signal is there.
-    pub fn change(&mut self) -> Step {
-        if self.skip && self.random.chance(40) {
-            return self.unexamined();
+    /// A time that may be refused: no probe sends it.
+    pub fn any_time(&mut self) -> Step {
+        let sender = self.any_sender();
+        match self.time(false) {
+            Step::Time(_, time) if sender > 1 => Step::Time(sender, time),
+            step => step,
         }
-        let present: Vec<usize> = (0..self.kinds.len()).filter(|s| self.kinds[*s] != ABSENT).collect();
+    }
+
+    /// A change that is recorded, or skipped in a skip; a time where its sender has no signal.
+    pub fn change(&mut self) -> Step {
+        let sender = self.sender();
+        let skip = self.skips[sender as usize];
+        if skip && self.random.chance(40) {
+            return self.unexamined(sender);
+        }
+        let own = |signal: &usize| self.kinds[*signal] != ABSENT && u32::from(self.probes[*signal]) == sender;
+        let present: Vec<usize> = (0..self.kinds.len()).filter(own).collect();
         if present.is_empty() {
-            return if self.skip { self.unexamined() } else { self.time(false) };
+            return if skip {
+                self.unexamined(sender)
+            } else {
+                self.time(false)
+            };
         }
         let signal = self.random.of(&present);
-        let value = match self.kinds[signal] {
+        Step::Change(sender, signal as u32, self.value(signal))
+    }
+
+    /// One that a signal takes.
+    pub fn value(&mut self, signal: usize) -> Value {
+        match self.kinds[signal] {
             0 => {
                 let length = self.random.below(2);
                 Value::Vcd(self.random.bytes(length))
             }
             REAL => self.real(signal),
             width => self.vector(signal, width),
-        };
-        Step::Change(signal as u32, value)
+        }
     }
 
     /// So many times and changes, `share` of a hundred being times, and a finish.
@@ -144,7 +206,7 @@ impl<'a> Generator<'a> {
     }
 
     /// In a skip nothing is looked at: any signal, any value.
-    fn unexamined(&mut self) -> Step {
+    fn unexamined(&mut self, sender: u32) -> Step {
         let far = self.random.below(1 << 31);
         let signal = self.random.of(&[0, self.kinds.len(), far]) as u32;
         let length = self.random.below(4);
@@ -154,7 +216,7 @@ impl<'a> Generator<'a> {
             1 => Value::Raw(self.random.below(3) as u32, bytes),
             _ => Value::Real(self.random.next()),
         };
-        Step::Change(signal, value)
+        Step::Change(sender, signal, value)
     }
 
     fn again(&mut self, signal: usize) -> Option<Content> {
@@ -162,7 +224,7 @@ impl<'a> Generator<'a> {
     }
 
     fn keep(&mut self, signal: usize, content: &Content) {
-        if !self.skip {
+        if !self.skips[self.probes[signal] as usize] {
             self.content.insert(signal, content.clone());
         }
     }
@@ -252,7 +314,7 @@ impl<'a> Generator<'a> {
         Value::Raw(claim, bytes)
     }
 
-    /// A call that may be refused: a value of another kind, a bad value, a signal that is not there.
+    /// A call that may be refused: a value of another kind, a bad value, a signal that is not there or of another probe, no probe.
     pub fn any_change(&mut self) -> Step {
         if self.random.chance(45) {
             return self.change();
@@ -263,13 +325,17 @@ impl<'a> Generator<'a> {
             1 => u32::MAX as usize,
             _ => self.random.below(self.kinds.len().max(1)),
         };
+        Step::Change(self.any_sender(), signal as u32, self.any_value(signal))
+    }
+
+    /// One that a signal may refuse.
+    pub fn any_value(&mut self, signal: usize) -> Value {
         let width = self.kinds.get(signal).copied().filter(|kind| *kind <= 200).unwrap_or(3);
-        let value = match self.random.below(3) {
+        match self.random.below(3) {
             0 => Value::Vcd(self.any_text(width)),
             1 => self.any_raw(width),
             _ => Value::Real(self.random.of(&REALS)),
-        };
-        Step::Change(signal as u32, value)
+        }
     }
 
     fn any_text(&mut self, width: u32) -> Vec<u8> {
@@ -322,34 +388,31 @@ pub fn kinds(random: &mut Random, kind: fn(&mut Random) -> u32) -> Vec<u32> {
     (0..count).map(|_| kind(random)).collect()
 }
 
-/// A recording without a refusal.
-pub fn recording(random: &mut Random, edition: u32) -> Recording {
+/// A probe for each of so many signals.
+pub fn probes(random: &mut Random, count: usize) -> Vec<u8> {
+    (0..count).map(|_| random.below(2) as u8).collect()
+}
+
+/// A recording without a refusal, of one probe or of two.
+pub fn recording(random: &mut Random, edition: u32, two: bool) -> Recording {
     let any = random.from_to(2, 300) as u16;
     let limit = random.of(&[2, 2, 2, 3, 3, 4, 5, 7, 16, any, any, 65_535]);
     let kinds = kinds(random, any_kind);
     let calls = if random.chance(1) { 0 } else { random.from_to(6, 38) };
     let share = random.of(&[25, 40, 60]);
-    let mut generator = Generator::new(random, kinds);
+    let new = if two { Generator::of_two } else { Generator::new };
+    let mut generator = new(random, kinds);
     generator.edition = edition;
     let steps = generator.calls(calls, share);
-    Recording {
-        edition,
-        limit,
-        kinds: generator.kinds,
-        steps,
-    }
+    generator.recording(limit, steps)
 }
 
 /// Some calls, none at all or a single time among the cases.
 fn short(generator: &mut Generator, limit: u16) -> Recording {
     let calls = generator.random.of(&[0, 1, 1, 2, 4, 7, 10, 14]);
     let share = generator.random.of(&[25, 40, 60]);
-    Recording {
-        edition: generator.edition,
-        limit,
-        steps: generator.calls(calls, share),
-        kinds: generator.kinds.clone(),
-    }
+    let steps = generator.calls(calls, share);
+    generator.recording(limit, steps)
 }
 
 /// A recording that cannot be joined with those of the generator: another B, another S or another kind.
@@ -390,7 +453,7 @@ pub fn long(random: &mut Random) -> Recording {
     let count = random.of(&[65_534, 65_535, 65_536, 131_068, 131_069, 131_070, 140_000]);
     let mut generator = Generator::new(random, kinds);
     generator.last = Some(generator.random.next() % 3);
-    let mut steps = vec![Step::Time(generator.last.unwrap())];
+    let mut steps = vec![Step::Time(0, generator.last.unwrap())];
     for number in 2..=count {
         steps.push(generator.time(number % 1000 != 0));
         let near = matches!(number % 65_534, 0..4 | 65_532 | 65_533);
@@ -401,10 +464,5 @@ pub fn long(random: &mut Random) -> Recording {
         }
     }
     steps.push(Step::Finish);
-    Recording {
-        edition: generator.edition,
-        limit: 65_535,
-        kinds: generator.kinds,
-        steps,
-    }
+    generator.recording(65_535, steps)
 }

@@ -1,7 +1,7 @@
 //! Document 01, 'History': what a list of calls says, told of the calls and of which were refused, never of the state; and document 02's
-//! "history under edition 2 is read with its rule" and "one history after the other".
+//! "history under edition 2 is read with its rule", a skip and a count for each probe, and "one history after the other".
 
-use crate::memory::{Answer, Recording};
+use crate::memory::{Answer, Recording, Skip};
 use crate::paper::decode;
 use crate::value::{Content, entry_bytes};
 use wellen::oracle::whole::Step;
@@ -20,8 +20,8 @@ pub struct History {
     kinds: Vec<u32>,
     pub times: Vec<u64>,
     changes: Vec<Vec<Change>>,
-    skip: bool,
-    pub count: u32,
+    /// By probe.
+    pub skips: [Skip; 2],
 }
 
 /// What loading a signal answers and writes.
@@ -39,8 +39,7 @@ impl History {
             kinds: kinds.to_vec(),
             times: Vec::new(),
             changes: kinds.iter().map(|_| Vec::new()).collect(),
-            skip: false,
-            count: 0,
+            skips: [Skip::default(); 2],
         }
     }
 
@@ -76,12 +75,13 @@ impl History {
         }
         match step {
             Step::Finish => None,
-            Step::Time(time) => Some(self.time(*time)),
-            Step::Change(..) if self.skip => {
-                self.count = self.count.saturating_add(1);
+            Step::Time(sender, time) => Some(self.time(*sender as usize, *time)),
+            Step::Change(sender, ..) if self.skips[*sender as usize].on => {
+                let skip = &mut self.skips[*sender as usize];
+                skip.count = skip.count.saturating_add(1);
                 Some(Answer::Skipped)
             }
-            Step::Change(signal, value) => {
+            Step::Change(_, signal, value) => {
                 let kind = self.kinds[*signal as usize];
                 let Ok(Some((content, class))) = decode(kind, value) else {
                     unreachable!("a change that is not refused has a content")
@@ -96,21 +96,22 @@ impl History {
         }
     }
 
-    fn time(&mut self, time: u64) -> Answer {
+    fn time(&mut self, probe: usize, time: u64) -> Answer {
+        let skip = &mut self.skips[probe];
         match self.times.last() {
             Some(last) if time == *last => {
                 if self.edition == 2 {
-                    self.skip = false;
+                    skip.on = false;
                 }
                 Answer::Same
             }
             Some(last) if time < *last => {
-                self.skip = true;
+                skip.on = true;
                 Answer::Back
             }
             _ => {
+                skip.on = false;
                 self.times.push(time);
-                self.skip = false;
                 Answer::Taken
             }
         }

@@ -40,7 +40,7 @@ pub fn recorded(r: &Recording, random: &mut Random, tally: &mut Tally) -> Result
         kinds: r.kinds.clone(),
         image: recording(r, every, random, tally)?,
         history: History::of(r),
-        rust: made(r.edition, r.limit, &r.kinds, &r.steps).ok_or("the Rust panics")?,
+        rust: made(r.edition, r.limit, &r.kinds, &r.probes, &r.steps).ok_or("the Rust panics")?,
     })
 }
 

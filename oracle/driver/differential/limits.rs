@@ -1,9 +1,9 @@
-//! The limits: widths, B, S, times near 2^64, special reals, the skipped count, and the image limit on mapped memory that stays untouched, and joins to that total, one of which is written.
+//! The limits: widths, B, S, times near 2^64, special reals, the skipped counts, and the image limit on mapped memory that stays untouched, and joins to that total, one of which is written.
 
 use crate::compare::{Compared, Tally, agree, recording};
 use crate::generate::{Generator, REALS, long};
 use crate::join::u32_at;
-use crate::memory::{Answer, Record, Recording, State};
+use crate::memory::{Answer, Record, Recording, Skip, State};
 use crate::ours::{self, Source};
 use crate::paper::IMAGE_LIMIT;
 use crate::random::Random;
@@ -24,12 +24,7 @@ fn wide(random: &mut Random, count: usize) -> Vec<Recording> {
             steps.push(generator.change());
         }
         steps.push(Step::Finish);
-        Recording {
-            edition: generator.edition,
-            limit,
-            kinds: generator.kinds.clone(),
-            steps,
-        }
+        generator.recording(limit, steps)
     };
     (0..count).map(recording).collect()
 }
@@ -41,29 +36,18 @@ fn reals(limit: u16) -> Recording {
         .iter()
         .flat_map(|first| REALS.iter().map(move |second| [*first, *second]));
     for (time, bits) in pairs.flatten().enumerate() {
-        steps.push(Step::Time(time as u64));
-        steps.push(Step::Change(0, Value::Real(bits)));
-        steps.push(Step::Change(0, Value::Real(bits)));
+        steps.push(Step::Time(0, time as u64));
+        steps.push(Step::Change(0, 0, Value::Real(bits)));
+        steps.push(Step::Change(0, 0, Value::Real(bits)));
     }
     steps.push(Step::Finish);
-    Recording {
-        edition: 1,
-        limit,
-        kinds: vec![REAL],
-        steps,
-    }
+    Recording::plain(limit, vec![REAL], steps)
 }
 
 fn at_times(limit: u16, times: &[u64]) -> Recording {
-    let calls = times
-        .iter()
-        .flat_map(|time| [Step::Time(*time), Step::Change(0, Value::Vcd(b"1x".to_vec()))]);
-    Recording {
-        edition: 1,
-        limit,
-        kinds: vec![2],
-        steps: calls.chain([Step::Finish]).collect(),
-    }
+    let change = || Step::Change(0, 0, Value::Vcd(b"1x".to_vec()));
+    let calls = times.iter().flat_map(|time| [Step::Time(0, *time), change()]);
+    Recording::plain(limit, vec![2], calls.chain([Step::Finish]).collect())
 }
 
 /// Times at the top, with equal and earlier ones between.
@@ -89,21 +73,18 @@ fn late(limit: u16) -> Recording {
 
 /// 65,536 signals, changes on the first and the last, from this time on.
 fn many(first: u64) -> Recording {
-    let bit = |signal: u32, value: &[u8]| Step::Change(signal, Value::Vcd(value.to_vec()));
-    Recording {
-        edition: 1,
-        limit: 2,
-        kinds: (0..65_536).map(|n| if n % 3 == 1 { ABSENT } else { 1 }).collect(),
-        steps: vec![
-            Step::Time(first),
-            bit(0, b"1"),
-            bit(65_535, b"x"),
-            Step::Time(first + 1),
-            Step::Time(first + 2),
-            bit(65_535, b"x"),
-            Step::Finish,
-        ],
-    }
+    let bit = |signal: u32, value: &[u8]| Step::Change(0, signal, Value::Vcd(value.to_vec()));
+    let kinds = (0..65_536).map(|n| if n % 3 == 1 { ABSENT } else { 1 }).collect();
+    let steps = vec![
+        Step::Time(0, first),
+        bit(0, b"1"),
+        bit(65_535, b"x"),
+        Step::Time(0, first + 1),
+        Step::Time(0, first + 2),
+        bit(65_535, b"x"),
+        Step::Finish,
+    ];
+    Recording::plain(2, kinds, steps)
 }
 
 pub fn recordings(random: &mut Random, longs: usize, tally: &mut Tally) -> Compared {
@@ -195,6 +176,7 @@ fn event() -> u64 {
         kind: 0,
         index: 0,
         top: 0,
+        probe: 0,
     })
 }
 
@@ -215,9 +197,9 @@ pub fn image_limit(tally: &mut Refusals) -> Compared {
     agree("start at the limit", answer, Answer::Started)?;
     agree("pages touched", mapped.touched(), 1)?;
     let mut m = (state, records, times, [0; 64]);
-    let change = Step::Change(0, Value::Vcd(Vec::new()));
+    let change = Step::Change(0, 0, Value::Vcd(Vec::new()));
     let answers = [Answer::Taken, Answer::Recorded, Answer::Finished(46)];
-    for (call, done) in [Step::Time(5), change, Step::Finish].iter().zip(answers) {
+    for (call, done) in [Step::Time(0, 5), change, Step::Finish].iter().zip(answers) {
         let before = m;
         let answer = ours::step_on(&mut m.0, &mut m.1, &mut m.2, &mut m.3, mapped.bytes(MOST + 1), call);
         agree("call over the limit", answer, Answer::Refused(10))?;
@@ -319,24 +301,28 @@ pub fn joined_total(whole: bool, tally: &mut Refusals) -> Compared {
     agree("second image and a byte past it", &out[first.len()..], &end[..])
 }
 
-/// "32 bits, then the count stays at its top", in an edition.
-pub fn skipped_count(edition: u32) -> Compared {
+/// "32 bits, then the count stays at its top", in an edition: that of one probe, while the other's counts on.
+pub fn skipped_count(edition: u32, probe: usize) -> Compared {
     let (mut records, mut times, mut work, mut image) = ([event()], [9, 0], [0; 64], [0; 64]);
-    let skipped = u32::MAX - 1;
+    let skip = |count| Skip { on: true, count };
     let mut state = State {
         limit: 2,
         signals: 1,
         held: 1,
         image: 20,
-        skip: true,
-        skipped,
         edition,
         ..State::default()
     };
-    for _ in 0..3 {
-        let call = Step::Change(77, Value::Raw(9, Vec::new()));
-        let answer = ours::step_on(&mut state, &mut records, &mut times, &mut work, &mut image, &call);
-        agree("skipped", (answer, state.skipped), (Answer::Skipped, u32::MAX))?;
+    state.skips[probe] = skip(u32::MAX - 1);
+    state.skips[1 - probe] = skip(0);
+    for count in 1..4 {
+        for sender in [0, 1] {
+            let call = Step::Change(sender, 77, Value::Raw(9, Vec::new()));
+            let answer = ours::step_on(&mut state, &mut records, &mut times, &mut work, &mut image, &call);
+            agree("skipped", answer, Answer::Skipped)?;
+        }
+        let both = [state.skips[probe], state.skips[1 - probe]];
+        agree("counts", both, [skip(u32::MAX), skip(count)])?;
     }
     Ok(())
 }

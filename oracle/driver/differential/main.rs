@@ -10,6 +10,7 @@ mod limits;
 mod memory;
 mod opener;
 mod ours;
+mod pairs;
 mod paper;
 mod random;
 mod refusals;
@@ -20,6 +21,7 @@ use compare::{Compared, Tally, agree};
 use damaged::Damaged;
 use joins::Joins;
 use memory::Recording;
+use pairs::Pairs;
 use random::Random;
 use refusals::Refusals;
 use std::fs::File;
@@ -38,6 +40,8 @@ struct Size {
     longs: usize,
     mixed: u64,
     editions: u64,
+    probes: u64,
+    pairs: u64,
     altered: u64,
     joins: u64,
     wides: u64,
@@ -53,6 +57,8 @@ const SIZES: [Size; 2] = [
         longs: 1,
         mixed: 6_000,
         editions: 6_000,
+        probes: 6_000,
+        pairs: 4_000,
         altered: 6_000,
         joins: 6_000,
         wides: 1,
@@ -66,6 +72,8 @@ const SIZES: [Size; 2] = [
         longs: 20,
         mixed: 30_000,
         editions: 60_000,
+        probes: 60_000,
+        pairs: 40_000,
         altered: 60_000,
         joins: 60_000,
         wides: 8,
@@ -79,8 +87,10 @@ struct Run {
     seed: u64,
     values: Values,
     tally: Tally,
-    /// Of edition 2.
+    /// Of edition 2, and of two probes in either edition.
     second: Tally,
+    two: Tally,
+    pairs: Pairs,
     refusals: Refusals,
     joins: Joins,
     damaged: Damaged,
@@ -95,6 +105,8 @@ impl Run {
             values: Values::default(),
             tally: Tally::default(),
             second: Tally::default(),
+            two: Tally::default(),
+            pairs: Pairs::default(),
             refusals: Refusals::new(),
             joins: Joins::default(),
             damaged: Damaged::default(),
@@ -113,10 +125,12 @@ impl Run {
     }
 
     fn recording(&mut self, r: &Recording, random: &mut Random) -> Compared {
-        let tally = if r.edition == 1 {
+        let tally = if r.for_rust() {
             &mut self.tally
-        } else {
+        } else if r.of_one() {
             &mut self.second
+        } else {
+            &mut self.two
         };
         let result = compare::recording(r, 1, random, tally);
         result.map(|_| ()).map_err(|e| {
@@ -131,9 +145,19 @@ impl Run {
     /// Edition 2, half of the recordings with refused calls between.
     fn edition_2(&mut self, random: &mut Random) -> Compared {
         if random.chance(50) {
-            return refusals::mixed(random, 2, &mut self.second);
+            return refusals::mixed(random, 2, false, &mut self.second);
         }
-        let r = generate::recording(random, 2);
+        let r = generate::recording(random, 2, false);
+        self.recording(&r, random)
+    }
+
+    /// Two probes in either edition, half of the recordings with refused calls between.
+    fn two_probes(&mut self, random: &mut Random) -> Compared {
+        let edition = random.of(&[1, 2]);
+        if random.chance(50) {
+            return refusals::mixed(random, edition, true, &mut self.two);
+        }
+        let r = generate::recording(random, edition, true);
         self.recording(&r, random)
     }
 
@@ -146,11 +170,13 @@ impl Run {
                 self.value(kind, index, &value)
             }
             "recordings" => {
-                let r = generate::recording(random, 1);
+                let r = generate::recording(random, 1, false);
                 self.recording(&r, random)
             }
-            "mixed" => refusals::mixed(random, 1, &mut self.tally),
+            "mixed" => refusals::mixed(random, 1, false, &mut self.tally),
             "editions" => self.edition_2(random),
+            "probes" => self.two_probes(random),
+            "pairs" => pairs::item(random, &mut self.pairs),
             "altered" => refusals::altered(random, &mut self.refusals),
             "joined-limits" => joins::limits(random, item as usize, &mut self.joins, &mut self.refusals),
             "joins" => joins::item(random, &mut self.joins, &mut self.refusals),
@@ -194,12 +220,14 @@ impl Run {
         self.one("limits", size.longs as u64)?;
         self.passed(format!("with the limits: {}", recorded(&self.tally)));
         self.editions(size.editions)?;
+        self.probes(size.probes)?;
+        self.pairs(size.pairs)?;
         self.items("altered", size.altered)?;
         let (calls, refused) = (self.refusals.calls, self.refusals.refused);
         self.passed(format!("calls on states altered and not: {calls}, {refused} refused"));
         self.fixed(size.whole)?;
         self.passed(
-            "image limit and joined totals on mapped memory, S of 65,536, skipped count at its top".to_string(),
+            "image limit and joined totals on mapped memory, S of 65,536, skipped counts at their tops".to_string(),
         );
         self.items("joins", size.joins)?;
         self.passed(self.joined());
@@ -222,10 +250,35 @@ impl Run {
         agree("an equal time ended a skip", returned > 0, true)
     }
 
+    fn probes(&mut self, count: u64) -> Compared {
+        self.items("probes", count)?;
+        let (told, returned, beside) = (recorded(&self.two), self.two.returned, self.two.beside);
+        self.passed(format!(
+            "two probes, without the Rust: {told}; {beside} changes recorded in a skip of the other probe, {returned} skips ended by an equal time"
+        ));
+        agree("one probe recorded in a skip of the other", beside > 0, true)
+    }
+
+    fn pairs(&mut self, count: u64) -> Compared {
+        self.items("pairs", count)?;
+        let p = &self.pairs;
+        let told = format!(
+            "pairs of lists that differ in the values of probe 0: {}, {} with another answer to probe 0, {} with another image; of probe 1, by each of two ways to read: {} signals, {} entries, {} cursors; {} left out, as a run met 7 or 8; {} calls in all",
+            p.compared, p.answers, p.images, p.signals, p.entries, p.cursors, p.left_out, p.tally.calls
+        );
+        let (enough, answers, images, entries) = (p.compared > p.left_out, p.answers, p.images, p.entries);
+        self.passed(told);
+        agree("most pairs are compared", enough, true)?;
+        agree("a pair has another answer to probe 0", answers > 0, true)?;
+        agree("a pair has another image", images > 0, true)?;
+        agree("a signal of probe 1 has entries", entries > 0, true)
+    }
+
     fn fixed(&mut self, whole: bool) -> Compared {
         refusals::signals(&mut self.refusals)?;
-        limits::skipped_count(1)?;
-        limits::skipped_count(2)?;
+        for (edition, probe) in [(1, 0), (1, 1), (2, 0), (2, 1)] {
+            limits::skipped_count(edition, probe)?;
+        }
         limits::image_limit(&mut self.refusals)?;
         limits::last_byte(&mut self.refusals)?;
         limits::largest_image(whole)?;
@@ -258,18 +311,20 @@ impl Run {
 
     fn calls(&mut self, text: &str) -> Compared {
         let sheets = sheets(text).ok_or("a line is no call")?;
-        for (edition, limit, kinds, steps) in sheets {
+        for (edition, limit, kinds, probes, steps) in sheets {
             let random = &mut Random::new("calls", self.seed, 0);
             let r = Recording {
                 edition,
                 limit,
                 kinds,
+                probes,
                 steps,
             };
             self.recording(&r, random)?;
         }
         self.say(&recorded(&self.tally));
         self.say(&format!("edition 2, without the Rust: {}", recorded(&self.second)));
+        self.say(&format!("two probes, without the Rust: {}", recorded(&self.two)));
         Ok(())
     }
 }

@@ -1,7 +1,14 @@
 //! What a recording stands in between two calls: its state, the signals' records and the lent buffers.
 
 use std::fmt::{self, Display, Formatter};
-use wellen::oracle::whole::{ABSENT, REAL, Step, Value};
+use wellen::oracle::whole::{ABSENT, REAL, Step, Value, of_probe_0};
+
+/// Of one probe: whether its changes are skipped, and how many were.
+#[derive(Clone, Copy, Debug, Default, PartialEq)]
+pub struct Skip {
+    pub on: bool,
+    pub count: u32,
+}
 
 #[derive(Clone, Copy, Debug, Default, PartialEq)]
 pub struct State {
@@ -18,10 +25,10 @@ pub struct State {
     pub image: u32,
     /// N.
     pub blocks: u32,
-    pub skip: bool,
-    pub skipped: u32,
     /// Of the skip rule.
     pub edition: u32,
+    /// By probe.
+    pub skips: [Skip; 2],
 }
 
 #[derive(Clone, Copy, Debug, PartialEq)]
@@ -31,6 +38,8 @@ pub struct Record {
     pub index: u32,
     /// 0, 1 or 2.
     pub top: u32,
+    /// The sender of its changes; altered, any.
+    pub probe: u8,
 }
 
 /// The buffers are as long as what is lent.
@@ -49,12 +58,13 @@ pub const NUMBER: u32 = 0xa5a5_a5a5;
 pub const TIME: u64 = 0xa5a5_a5a5_a5a5_a5a5;
 
 impl Memory {
-    /// Memory for a start: the records' indices and classes are not 0, so that a start must set them.
+    /// Memory for a start, all signals of probe 0: the records' indices and classes are not 0, so that a start must set them.
     pub fn fresh(kinds: &[u32], times: usize, work: usize, image: usize) -> Self {
         let record = |kind: &u32| Record {
             kind: *kind,
             index: 7,
             top: 2,
+            probe: 0,
         };
         Memory {
             state: State {
@@ -65,6 +75,20 @@ impl Memory {
             times: vec![TIME; times],
             work: vec![BYTE; work],
             image: vec![BYTE; image],
+        }
+    }
+
+    /// Memory for the start of a recording.
+    pub fn lent(r: &Recording, times: usize, work: usize, image: usize) -> Self {
+        let mut m = Memory::fresh(&r.kinds, times, work, image);
+        m.name(&r.probes);
+        m
+    }
+
+    /// Lets the records name these probes.
+    pub fn name(&mut self, probes: &[u8]) {
+        for (record, probe) in self.records.iter_mut().zip(probes) {
+            record.probe = *probe;
         }
     }
 
@@ -123,13 +147,37 @@ impl Answer {
     }
 }
 
-/// A recording's calls after a start with this edition of the skip rule, this limit and these kinds.
+/// A recording's calls after a start with this edition of the skip rule, this limit, and signals of these kinds and probes.
 #[derive(Clone, Debug)]
 pub struct Recording {
     pub edition: u32,
     pub limit: u16,
     pub kinds: Vec<u32>,
+    pub probes: Vec<u8>,
     pub steps: Vec<Step>,
+}
+
+impl Recording {
+    /// Edition 1, and all signals of probe 0.
+    pub fn plain(limit: u16, kinds: Vec<u32>, steps: Vec<Step>) -> Self {
+        Recording {
+            edition: 1,
+            limit,
+            probes: vec![0; kinds.len()],
+            kinds,
+            steps,
+        }
+    }
+
+    /// Probe 0 sends all.
+    pub fn of_one(&self) -> bool {
+        of_probe_0(&self.probes, &self.steps)
+    }
+
+    /// The Rust knows edition 1 and probe 0 alone.
+    pub fn for_rust(&self) -> bool {
+        self.edition == 1 && self.of_one()
+    }
 }
 
 fn hex(bytes: &[u8]) -> String {
@@ -144,26 +192,41 @@ pub fn kind_word(kind: u32) -> String {
     }
 }
 
+/// Without its sender.
 pub fn step_line(step: &Step) -> String {
     match step {
-        Step::Time(time) => format!("time {time}"),
-        Step::Change(signal, Value::Vcd(text)) => format!("vcd {signal} {}", hex(text)),
-        Step::Change(signal, Value::Raw(claim, bytes)) => {
+        Step::Time(_, time) => format!("time {time}"),
+        Step::Change(_, signal, Value::Vcd(text)) => format!("vcd {signal} {}", hex(text)),
+        Step::Change(_, signal, Value::Raw(claim, bytes)) => {
             format!("raw {signal} {claim} {}", hex(bytes))
         }
-        Step::Change(signal, Value::Real(bits)) => format!("real {signal} {bits:016x}"),
+        Step::Change(_, signal, Value::Real(bits)) => format!("real {signal} {bits:016x}"),
         Step::Finish => "finish".to_string(),
     }
 }
 
-/// The form that `oracle recordings` reads, if the edition is 1.
+/// For a report: a call and its sender.
+pub fn named(step: &Step) -> String {
+    let by = step.sender().map_or(String::new(), |sender| format!("by {sender}: "));
+    by + &step_line(step)
+}
+
+/// The form that `oracle recordings` reads, if the edition is 1 and the probe is 0.
 impl Display for Recording {
     fn fmt(&self, f: &mut Formatter<'_>) -> fmt::Result {
-        let kinds: String = self.kinds.iter().map(|k| " ".to_string() + &kind_word(*k)).collect();
-        writeln!(f, "edition {}", self.edition)?;
+        let kinds: String = self.kinds.iter().map(|k| format!(" {}", kind_word(*k))).collect();
+        let probes: String = self.probes.iter().map(|probe| format!(" {probe}")).collect();
+        writeln!(f, "edition {}\nprobes{probes}", self.edition)?;
         write!(f, "start {} {}{kinds}", self.kinds.len(), self.limit)?;
-        self.steps
-            .iter()
-            .try_for_each(|step| write!(f, "\n{}", step_line(step)))
+        let mut last = None;
+        for step in &self.steps {
+            let sender = step.sender().or(last);
+            if let (true, Some(sender)) = (sender != last, sender) {
+                write!(f, "\nsender {sender}")?;
+            }
+            last = sender;
+            write!(f, "\n{}", step_line(step))?;
+        }
+        Ok(())
     }
 }

@@ -75,7 +75,7 @@ fn part(data: &[u8], signal: u32, kind: u32, at: &mut [Vec<Step>]) -> Option<()>
         let (d, value) = change(&mut bytes, kind, claim)?;
         index = index.checked_add(d)?;
         at.get_mut(usize::try_from(index).ok()?)?
-            .push(Step::Change(signal, value));
+            .push(Step::Change(0, signal, value));
     }
     Some(())
 }
@@ -96,7 +96,7 @@ fn block(bytes: &mut Bytes, kinds: &[u32]) -> Option<Vec<Step>> {
         part(piece, signal as u32, *kinds.get(signal)?, &mut at)?;
     }
     let steps = times.into_iter().zip(at);
-    let steps = steps.flat_map(|(time, changes)| [vec![Step::Time(time)], changes].concat());
+    let steps = steps.flat_map(|(time, changes)| [vec![Step::Time(0, time)], changes].concat());
     Some(steps.chain([Step::Finish]).collect())
 }
 
@@ -106,13 +106,8 @@ fn read_off(image: &[u8]) -> Option<Vec<Recording>> {
     let (signals, limit, blocks, _) = (bytes.u32()?, bytes.u32()?, bytes.u32()?, bytes.u32()?);
     let kinds = (0..signals).map(|_| bytes.u32()).collect::<Option<Vec<u32>>>()?;
     let limit = u16::try_from(limit).ok()?;
-    // an image tells nothing of the edition, and these calls have no skip
-    let recording = |steps| Recording {
-        edition: 1,
-        limit,
-        kinds: kinds.clone(),
-        steps,
-    };
+    // an image tells nothing of the edition and of probes, and these calls have no skip
+    let recording = |steps| Recording::plain(limit, kinds.clone(), steps);
     if blocks == 0 {
         return Some(vec![recording(vec![Step::Finish])]);
     }

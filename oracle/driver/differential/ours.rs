@@ -1,21 +1,26 @@
 //! The wave memory of this repository, called through its Rust interface (bindings/rust), which calls its C interface.
 
-use crate::memory::{Answer, Memory, Record, State};
+use crate::memory::{Answer, Memory, Record, Skip, State};
 use crate::value::Content;
 use wejumo::{Cursor, Edition, Entry, Image, Kind, Loaded, Recorder, Refusal, States};
 use wellen::oracle::whole::{Step, Value};
 
-/// A record as it is stored: kind + 2^32 x (3 x index + class).
+/// The largest index that a stored record has with every class.
+pub const LAST_INDEX: u32 = 5_592_404;
+
+/// A record as it is stored: kind + 2^32 x (probe + 256 x (3 x index + class)).
 pub fn stored(record: &Record) -> u64 {
-    u64::from(record.kind) + ((3 * u64::from(record.index) + u64::from(record.top)) << 32)
+    let place = 3 * u64::from(record.index) + u64::from(record.top);
+    u64::from(record.kind) + ((u64::from(record.probe) + 256 * place) << 32)
 }
 
 fn restored(number: u64) -> Record {
     let high = (number >> 32) as u32;
     Record {
         kind: number as u32,
-        index: high / 3,
-        top: high % 3,
+        index: high / 256 / 3,
+        top: high / 256 % 3,
+        probe: (high % 256) as u8,
     }
 }
 
@@ -28,13 +33,16 @@ fn given(s: &State) -> wejumo::State {
         work: s.work,
         image: s.image,
         blocks: s.blocks,
-        skip: s.skip.into(),
-        skipped: s.skipped,
+        skip: s.skips[0].on.into(),
+        skipped: s.skips[0].count,
         edition: s.edition,
+        skip_1: s.skips[1].on.into(),
+        skipped_1: s.skips[1].count,
     }
 }
 
 fn kept(s: wejumo::State) -> State {
+    let skip = |on, count| Skip { on: on != 0, count };
     State {
         closed: s.closed != 0,
         limit: s.limit,
@@ -43,9 +51,8 @@ fn kept(s: wejumo::State) -> State {
         work: s.work,
         image: s.image,
         blocks: s.blocks,
-        skip: s.skip != 0,
-        skipped: s.skipped,
         edition: s.edition,
+        skips: [skip(s.skip, s.skipped), skip(s.skip_1, s.skipped_1)],
     }
 }
 
@@ -129,10 +136,10 @@ pub fn step_on(
 ) -> Answer {
     let mut recorder = Recorder::resume(given(s), records, times, work, image);
     let said = match step {
-        Step::Time(time) => recorder.time(*time),
-        Step::Change(signal, Value::Vcd(text)) => recorder.vcd(*signal, text),
-        Step::Change(signal, Value::Raw(claim, bytes)) => recorder.raw(*signal, *claim, bytes),
-        Step::Change(signal, Value::Real(bits)) => recorder.real(*signal, *bits),
+        Step::Time(sender, time) => recorder.time(*sender, *time),
+        Step::Change(sender, signal, Value::Vcd(text)) => recorder.vcd(*sender, *signal, text),
+        Step::Change(sender, signal, Value::Raw(claim, bytes)) => recorder.raw(*sender, *signal, *claim, bytes),
+        Step::Change(sender, signal, Value::Real(bits)) => recorder.real(*sender, *signal, *bits),
         Step::Finish => recorder.finish(),
     };
     *s = kept(recorder.state());

@@ -1,5 +1,5 @@
-//! The recorder of document 01 ('Recording', 'Block and image', 'Turned back'), with document 02's second edition of the skip rule, read a
-//! second time: on any state and any lent memory it says the answer and what all memory holds afterwards.
+//! The recorder of document 01 ('Recording', 'Block and image', 'Turned back'), with document 02's second edition of the skip rule and its two
+//! probes, read a second time: on any state and any lent memory it says the answer and what all memory holds afterwards.
 
 use crate::memory::{Answer, Memory, State};
 use crate::value::{Content, change_bytes, raw_symbols, vcd_symbols, vcd_text};
@@ -15,12 +15,13 @@ pub struct Turned {
 }
 
 /// All conditions, by the number of their refusal; those of a join are tested in join.rs.
-pub const CONDITIONS: [&str; 44] = [
+pub const CONDITIONS: [&str; 47] = [
     "1 B outside its range",
     "1 time buffer under B",
     "1 S over 65,536",
     "1 S not the record count",
     "1 unknown kind",
+    "1 a record names neither probe",
     "1 image buffer under the head",
     "1 image buffer over the limit",
     "1 edition neither 1 nor 2",
@@ -60,6 +61,8 @@ pub const CONDITIONS: [&str; 44] = [
     "14 a kind differs",
     "15 the first has no block",
     "16 the second starts before the first ends",
+    "18 sender above 1",
+    "18 the record does not name the sender",
 ];
 
 type Said = Result<Answer, Turned>;
@@ -107,6 +110,7 @@ pub fn start(m: &mut Memory, limit: u32, signals: u32, edition: u32) -> Said {
             (signals > 65_536, "1 S over 65,536"),
             (signals as usize != m.records.len(), "1 S not the record count"),
             (m.records.iter().any(|r| too_wide(r.kind)), "1 unknown kind"),
+            (m.records.iter().any(|r| r.probe > 1), "1 a record names neither probe"),
             ((m.image.len() as u64) < size, "1 image buffer under the head"),
             (m.image.len() as u64 > IMAGE_LIMIT, "1 image buffer over the limit"),
             (no_edition(edition), "1 edition neither 1 nor 2"),
@@ -127,10 +131,11 @@ pub fn start(m: &mut Memory, limit: u32, signals: u32, edition: u32) -> Said {
     Ok(Answer::Started)
 }
 
-/// 2, then the first group of 10.
-fn open_and_sound(m: &Memory) -> Result<(), Turned> {
+/// 2, "18 for a sender above 1 (after 2)", then the first group of 10. A finish has no sender.
+fn open_and_sound(m: &Memory, sender: Option<u32>) -> Result<(), Turned> {
     let s = &m.state;
     turn(2, &[(s.closed, "2 closed")])?;
+    turn(18, &[(sender > Some(1), "18 sender above 1")])?;
     turn(
         10,
         &[
@@ -210,19 +215,20 @@ fn cut(m: &mut Memory) -> Result<(), Turned> {
     Ok(())
 }
 
-fn time(m: &mut Memory, time: u64) -> Said {
-    open_and_sound(m)?;
-    let held = m.state.held as usize;
+/// "A time is judged against the shared last time; it starts or ends the skip of its sender only."
+fn time(m: &mut Memory, sender: u32, time: u64) -> Said {
+    open_and_sound(m, Some(sender))?;
+    let (probe, held) = (sender as usize, m.state.held as usize);
     if held > 0 {
         let last = m.times[held - 1];
         if time == last {
             if m.state.edition == 2 {
-                m.state.skip = false;
+                m.state.skips[probe].on = false;
             }
             return Ok(Answer::Same);
         }
         if time < last {
-            m.state.skip = true;
+            m.state.skips[probe].on = true;
             return Ok(Answer::Back);
         }
         if m.state.held == m.state.limit {
@@ -231,7 +237,7 @@ fn time(m: &mut Memory, time: u64) -> Said {
     }
     m.times[m.state.held as usize] = time;
     m.state.held += 1;
-    m.state.skip = false;
+    m.state.skips[probe].on = false;
     Ok(Answer::Taken)
 }
 
@@ -293,22 +299,27 @@ pub fn extended(kind: u32, value: &Value) -> bool {
 
 /// Whether a call has such a value. "The Rust panics here, so oracle runs leave such values out."
 pub fn left_out(kinds: &[u32], step: &Step) -> bool {
-    let Step::Change(signal, value) = step else {
+    let Step::Change(_, signal, value) = step else {
         return false;
     };
     kinds.get(*signal as usize).is_some_and(|kind| extended(*kind, value))
 }
 
-fn change(m: &mut Memory, signal: u32, value: &Value) -> Said {
-    open_and_sound(m)?;
+/// "A change falls at the shared last time, whoever sent that. The skipped count is kept per probe, not once." And 18 "for a signal whose record
+/// does not name the sender (after 4)".
+fn change(m: &mut Memory, sender: u32, signal: u32, value: &Value) -> Said {
+    open_and_sound(m, Some(sender))?;
     turn(3, &[(m.state.held == 0, "3 change before any time")])?;
-    if m.state.skip {
-        m.state.skipped = m.state.skipped.saturating_add(1);
+    let skip = &mut m.state.skips[sender as usize];
+    if skip.on {
+        skip.count = skip.count.saturating_add(1);
         return Ok(Answer::Skipped);
     }
     turn(4, &[(signal >= m.state.signals, "4 number at or above S")])?;
     let record = m.records[signal as usize];
     turn(4, &[(record.kind == ABSENT, "4 absent")])?;
+    let foreign = u32::from(record.probe) != sender;
+    turn(18, &[(foreign, "18 the record does not name the sender")])?;
     let decoded = decode(record.kind, value)?;
     let last = m.state.held - 1;
     turn(
@@ -332,7 +343,7 @@ fn change(m: &mut Memory, signal: u32, value: &Value) -> Said {
 }
 
 fn finish(m: &mut Memory) -> Said {
-    open_and_sound(m)?;
+    open_and_sound(m, None)?;
     if m.state.held > 0 {
         cut(m)?;
     }
@@ -342,8 +353,8 @@ fn finish(m: &mut Memory) -> Said {
 
 pub fn step(m: &mut Memory, step: &Step) -> Said {
     match step {
-        Step::Time(now) => time(m, *now),
-        Step::Change(signal, value) => change(m, *signal, value),
+        Step::Time(sender, now) => time(m, *sender, *now),
+        Step::Change(sender, signal, value) => change(m, *sender, *signal, value),
         Step::Finish => finish(m),
     }
 }

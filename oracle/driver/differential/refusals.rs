@@ -2,8 +2,8 @@
 //! second time (paper.rs), and a refusal leaves all memory as it was.
 
 use crate::compare::{Compared, Tally, agree, none, on_memory};
-use crate::generate::{Generator, kinds, small_kind};
-use crate::memory::{Answer, BYTE, Memory, Record, Recording, TIME, step_line};
+use crate::generate::{Generator, kinds, probes, small_kind};
+use crate::memory::{Answer, BYTE, Memory, Record, TIME, named};
 use crate::ours;
 use crate::paper::{self, CONDITIONS, left_out};
 use crate::random::Random;
@@ -71,7 +71,7 @@ fn compared(
 fn step(m: &mut Memory, step: &Step, tally: &mut Refusals) -> Result<Answer, String> {
     compared(
         m,
-        &step_line(step),
+        &named(step),
         tally,
         |m| ours::step(m, step),
         |m| paper::step(m, step),
@@ -93,7 +93,7 @@ fn start(m: &mut Memory, limit: u32, signals: u32, edition: u32, tally: &mut Ref
 fn any_step(generator: &mut Generator) -> Step {
     match generator.random.below(40) {
         0 => Step::Finish,
-        1..15 => generator.time(false),
+        1..15 => generator.any_time(),
         _ => generator.any_change(),
     }
 }
@@ -114,6 +114,7 @@ fn near(random: &mut Random, n: u64, limit: u64) -> u64 {
 fn alter_state(m: &mut Memory, random: &mut Random) {
     let (work, image) = (m.work.len() as u64, m.image.len() as u64);
     let s = &mut m.state;
+    let skip = &mut s.skips[random.below(2)];
     match random.below(10) {
         0 => s.closed = !s.closed,
         1 => s.limit = random.of(&[0, 1, 2, 3, 65_535, 65_536, u32::MAX, s.held, s.held.wrapping_sub(1)]),
@@ -122,9 +123,9 @@ fn alter_state(m: &mut Memory, random: &mut Random) {
         4 => s.work = near(random, s.work, work),
         5 => s.image = near(random, s.image.into(), image) as u32,
         6 => s.blocks = near(random, s.blocks.into(), s.image.into()) as u32,
-        7 => s.skip = !s.skip,
+        7 => skip.on = !skip.on,
         8 => s.edition = random.of(&[0, 1, 2, 3, u32::MAX]),
-        _ => s.skipped = random.of(&[0, u32::MAX - 1, u32::MAX]),
+        _ => skip.count = random.of(&[0, u32::MAX - 1, u32::MAX]),
     }
 }
 
@@ -143,9 +144,10 @@ fn alter_record(m: &mut Memory, random: &mut Random) {
             held.min(70_000),
             held.saturating_sub(1).min(70_000),
             65_535,
-            1_431_655_764,
+            ours::LAST_INDEX,
         ]),
         top: random.below(3) as u32,
+        probe: random.of(&[old.probe, old.probe, old.probe, 0, 1, 2, 7, 255]),
     };
 }
 
@@ -188,6 +190,7 @@ fn alter_lengths(m: &mut Memory, random: &mut Random) {
             kind: 1,
             index: 0,
             top: 0,
+            probe: 0,
         }),
     }
 }
@@ -218,6 +221,7 @@ fn memory(random: &mut Random) -> (Memory, u32) {
 
 fn starts(random: &mut Random, tally: &mut Refusals) -> Compared {
     let (mut m, limit) = memory(random);
+    m.name(&probes(random, m.records.len()));
     let mut signals = m.records.len() as u32;
     let mut limit = random.of(&[limit, limit, 0, 1, 2, 65_535, 65_536, u32::MAX]);
     let mut edition = random.of(&[1, 2]);
@@ -236,18 +240,19 @@ fn starts(random: &mut Random, tally: &mut Refusals) -> Compared {
     start(&mut m, limit, signals, edition, tally).map(|_| ())
 }
 
-/// A start in either edition, calls of all forms, and from each state left altered ones with calls on them.
+/// A start in either edition, calls of all forms by both probes and by none, and from each state left altered ones with calls on them.
 pub fn altered(random: &mut Random, tally: &mut Refusals) -> Compared {
     starts(random, tally)?;
     let (mut m, limit) = memory(random);
     let signals = m.records.len() as u32;
     let edition = random.of(&[1, 2]);
+    let kinds: Vec<u32> = m.records.iter().map(|record| record.kind).collect();
+    let mut generator = Generator::of_two(random, kinds);
+    generator.edition = edition;
+    m.name(&generator.probes);
     if start(&mut m, limit, signals, edition, tally)?.refused() {
         return Ok(());
     }
-    let kinds: Vec<u32> = m.records.iter().map(|record| record.kind).collect();
-    let mut generator = Generator::new(random, kinds);
-    generator.edition = edition;
     for _ in 0..12 {
         let call = any_step(&mut generator);
         step(&mut m, &call, tally)?;
@@ -287,30 +292,27 @@ fn asked_change(generator: &mut Generator) -> Step {
     }
 }
 
-/// A recording with refused calls in it, in buffers that are often too small: a refused call spoils only itself, and in edition 1 the Rust,
-/// given the calls that were not refused, leaves the same image.
-pub fn mixed(random: &mut Random, edition: u32, tally: &mut Tally) -> Compared {
+/// A recording with refused calls in it, in buffers that are often too small: a refused call spoils only itself, and in edition 1 and of one
+/// probe the Rust, given the calls that were not refused, leaves the same image.
+pub fn mixed(random: &mut Random, edition: u32, two: bool, tally: &mut Tally) -> Compared {
     let (mut m, limit) = memory(random);
     m.image.resize(random.from_to(60, 3000), BYTE);
     let kinds: Vec<u32> = m.records.iter().map(|record| record.kind).collect();
     let calls = random.from_to(4, 40);
-    let mut generator = Generator::new(random, kinds.clone());
+    let new = if two { Generator::of_two } else { Generator::new };
+    let mut generator = new(random, kinds);
     generator.edition = edition;
+    m.name(&generator.probes);
     let call = |generator: &mut Generator| {
         if generator.random.chance(35) {
-            generator.time(false)
+            generator.any_time()
         } else {
             asked_change(generator)
         }
     };
     let mut steps: Vec<Step> = (0..calls).map(|_| call(&mut generator)).collect();
-    steps.extend([Step::Finish, Step::Finish, Step::Time(u64::MAX)]);
-    let r = Recording {
-        edition,
-        limit: limit as u16,
-        kinds,
-        steps,
-    };
+    steps.extend([Step::Finish, Step::Finish, Step::Time(0, u64::MAX)]);
+    let r = generator.recording(limit as u16, steps);
     on_memory(&r, m, 1, random, tally)
         .map(|_| ())
         .map_err(|e| format!("{e}\n{r}"))

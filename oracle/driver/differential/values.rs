@@ -56,7 +56,7 @@ pub fn value(kind: u32, index: u32, value: &Value, tally: &mut Values) -> Compar
     m.state.held = index + 1;
     (0..=u64::from(index)).for_each(|time| m.times[time as usize] = time);
     let before = m.clone();
-    let answer = ours::step(&mut m, &Step::Change(0, value.clone()));
+    let answer = ours::step(&mut m, &Step::Change(0, 0, value.clone()));
     let Ok(Some((content, class))) = decode(kind, value) else {
         tally.bad += 1;
         agree("answer to a bad value", answer, Answer::Refused(6))?;
@@ -97,14 +97,10 @@ fn loaded(image: &[u8], kind: u32, index: u32, class: u32, content: Content) -> 
 
 /// A value as a recording, for a report.
 pub fn as_recording(kind: u32, index: u32, value: &Value) -> Recording {
-    let times = (0..=u64::from(index)).map(Step::Time);
-    let change = Step::Change(0, value.clone());
-    Recording {
-        edition: 1,
-        limit: 65_535,
-        kinds: vec![kind],
-        steps: times.chain([change, Step::Finish]).collect(),
-    }
+    let times = (0..=u64::from(index)).map(|time| Step::Time(0, time));
+    let change = Step::Change(0, 0, value.clone());
+    let steps = times.chain([change, Step::Finish]).collect();
+    Recording::plain(65_535, vec![kind], steps)
 }
 
 type Ask<'a> = &'a mut dyn FnMut(u32, u32, &Value) -> Compared;
@@ -183,7 +179,7 @@ pub fn random_value(random: &mut Random) -> (u32, u32, Value) {
             matches!(value, Value::Real(_)) == (kind == REAL) && !(kind == 0 && matches!(value, Value::Raw(..)))
         };
         match step {
-            Step::Change(0, value) if fits(&value) => return (kind, index, value),
+            Step::Change(_, 0, value) if fits(&value) => return (kind, index, value),
             _ => {}
         }
     }
@@ -192,6 +188,6 @@ pub fn random_value(random: &mut Random) -> (u32, u32, Value) {
 pub fn shown(kind: u32, index: u32, value: &Value) -> String {
     format!(
         "kind {kind} index {index} {}",
-        step_line(&Step::Change(0, value.clone()))
+        step_line(&Step::Change(0, 0, value.clone()))
     )
 }

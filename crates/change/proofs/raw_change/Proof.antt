@@ -11,9 +11,9 @@ use Rattle.change.proofs.raw_change.Tie as tie
 
 -- what the tests before the value leave
 left : (c : tie.After-admitted) {j : Admission} → c .admitted .result ≡ j → let a = c .before .before .before .args in let v = raw (a .claim) (a .value .now) in
-    byAdmission (a .state) (a .kept) (a .work .now) (a .target .signal .0) v j
-    ≡ foundOf (a .state) (a .kept) (a .lent .records) (a .lent .times) (a .lent .image) (a .work .now) (a .target .signal .0) v
-left c e = found-after _ _ _ _ _ _ _ _ (c .admitted .ensures) e
+    byAdmission (a .state) (a .kept) (a .work .now) (a .target .sender) (a .target .signal .0) v j
+    ≡ foundOf (a .state) (a .kept) (a .lent .records) (a .lent .times) (a .lent .image) (a .work .now) (a .target .sender) (a .target .signal .0) v
+left c e = found-after _ _ _ _ _ _ _ _ _ (c .admitted .ensures) e
 
 admitted-requires : tie.Need-admitted-requires
 admitted-requires c κs = search needs
@@ -52,7 +52,7 @@ enum-known-change c = search needs
 record-raw-requires : tie.Need-record-raw-requires
 record-raw-requires c κs =
     let d = c .before .before .before .before in
-    let h = taken-ready _ _ _ _ _ _ (sym (d .before .before .before .admitted .ensures) ∙ d .before .enum-told2 .given .1) in
+    let h = taken-ready _ _ _ _ _ _ _ _ (sym (d .before .before .before .admitted .ensures) ∙ d .before .enum-told2 .given .1) in
     ((h .timed, h .held, h .worked), sym (d .decode-raw .ensures) ∙ c .before .before .change .given .1)
 
 enum-known-k : tie.Need-enum-known-k

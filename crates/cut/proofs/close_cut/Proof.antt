@@ -1,6 +1,7 @@
 -- The block, then N, total and the next table.
 -- Assumes nothing.
 use mathlib.Core.Path.{refl}
+use native.Mathlib.Omega.{arith}
 use Rattle.cut.proofs.CutLaws.{used-length, head-put}
 use borrow.Author.Needs.{needs}
 use Rattle.cut.proofs.close_cut.Statement.{statement}
@@ -30,16 +31,22 @@ cast-times : tie.Need-cast-times
 cast-times c = search needs
 
 sub-times : tie.Need-sub-times
-sub-times c = search needs
+sub-times c =
+    let p = c .before .before .before .before .before .before .before .before .before .before .before .before .before .before .before .before .before .before .before .pre in
+    omega (arith, p .some-held)
 
 mul-times : tie.Need-mul-times
 mul-times c = search needs
 
 slice-read-times : tie.Need-slice-read-times
-slice-read-times c = search needs
+slice-read-times c =
+    let p = c .before .before .before .before .before .before .before .before .before .before .before .before .before .before .before .before .before .before .before .before .pre in
+    omega (arith, p .some-held, p .held)
 
 slice-write-times : tie.Need-slice-write-times
-slice-write-times c = search needs
+slice-write-times c =
+    let p = c .before .before .before .before .before .before .before .before .before .before .before .before .before .before .before .before .before .before .before .before .pre in
+    omega (arith, p .some-held, p .held)
 
 same-length : tie.Need-same-length
 same-length c = search needs

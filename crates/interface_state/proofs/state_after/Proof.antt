@@ -12,9 +12,12 @@ flag-after-requires c κs = search needs
 flag-after-requires-2 : tie.Need-flag-after-requires-2
 flag-after-requires-2 c κs = search needs
 
+flag-after-requires-3 : tie.Need-flag-after-requires-3
+flag-after-requires-3 c κs = search needs
+
 returns : tie.Need-returns
 unfolding stateAfter
-returns c = rw (c .before .flag-after .ensures, c .flag-after2 .ensures) refl
+returns c = rw (c .before .before .flag-after .ensures, c .before .flag-after2 .ensures, c .flag-after3 .ensures) refl
 
 pub state-after-spec : {M : Type 1} → statement M
-state-after-spec = tie.close (tie.spec flag-after-requires flag-after-requires-2 returns)
+state-after-spec = tie.close (tie.spec flag-after-requires flag-after-requires-2 flag-after-requires-3 returns)

@@ -5,7 +5,7 @@ use mathlib.Core.Bool.{false}
 use Rattle.lists.specs.Same.{same}
 use Rattle.ascii.specs.Ascii.{ascii}
 use Rattle.line.specs.Words.{word}
-use Rattle.line.proofs.CallLaws.{call-lend, call-edition, call-start, call-time, call-change, spelled}
+use Rattle.line.proofs.CallLaws.{call-lend, call-start, call-time, call-choice, spelled}
 use borrow.Author.Needs.{needs}
 use Rattle.line.proofs.read_call.Statement.{statement}
 use Rattle.line.proofs.read_call.Tie as tie
@@ -13,17 +13,11 @@ use Rattle.line.proofs.read_call.Tie as tie
 not-lend : (c : tie.Else1) → same (word 0 (c .before .before .before .before .before .args .line .now)) (ascii "lend") ≡ false
 not-lend c = spelled _ _ _ _ (ascii "lend") (c .before .spells .ensures) (c .before .before .before .word .ensures) (c .if1 .left)
 
-not-edition : (c : tie.Else2) → same (word 0 (c .before .before .before .before .before .before .before .before .args .line .now)) (ascii "edition") ≡ false
-not-edition c = spelled _ _ _ _ (ascii "edition") (c .before .spells2 .ensures) (c .before .before .before .before .before .before .word .ensures) (c .if2 .left)
+not-start : (c : tie.Else2) → same (word 0 (c .before .before .before .before .before .before .before .before .args .line .now)) (ascii "start") ≡ false
+not-start c = spelled _ _ _ _ (ascii "start") (c .before .spells2 .ensures) (c .before .before .before .before .before .before .word .ensures) (c .if2 .left)
 
-not-start : (c : tie.Else3) → same (word 0 (c .before .before .before .before .before .before .before .before .before .before .before .args .line .now)) (ascii "start") ≡ false
-not-start c =
-    spelled _ _ _ _ (ascii "start") (c .before .spells3 .ensures) (c .before .before .before .before .before .before .before .before .before .word .ensures) (c .if3 .left)
-
-not-time : (c : tie.Else4)
-    → same (word 0 (c .before .before .before .before .before .before .before .before .before .before .before .before .before .before .args .line .now)) (ascii "time") ≡ false
-not-time c =
-    spelled _ _ _ _ (ascii "time") (c .before .spells4 .ensures) (c .before .before .before .before .before .before .before .before .before .before .before .before .word .ensures) (c .if4 .left)
+not-time : (c : tie.Else3) → same (word 0 (c .before .before .before .before .before .before .before .before .before .before .before .args .line .now)) (ascii "time") ≡ false
+not-time c = spelled _ _ _ _ (ascii "time") (c .before .spells3 .ensures) (c .before .before .before .before .before .before .before .before .before .word .ensures) (c .if3 .left)
 
 word-requires : tie.Need-word-requires
 word-requires c κs = search needs
@@ -49,15 +43,14 @@ slice-aggregate-spells-2 c = search needs
 spells-requires-2 : tie.Need-spells-requires-2
 spells-requires-2 c κs = search needs
 
-read-edition-requires : tie.Need-read-edition-requires
-read-edition-requires c κs = search needs
+read-start-requires : tie.Need-read-start-requires
+read-start-requires c κs = search needs
 
 returns-2 : tie.Need-returns-2
 returns-2 c =
-    let e = spelled _ _ _ _ (ascii "edition") (c .before .before .spells2 .ensures) (c .before .before .before .before .before .before .before .word .ensures)
-    (c .before .if2 .taken) in
-    c .read-edition .ensures
-    ∙ sym (call-edition (c .before .before .before .before .before .before .before .before .before .args .line .now) (not-lend (c .before .before .before .before)) e)
+    let e = spelled _ _ _ _ (ascii "start") (c .before .before .spells2 .ensures) (c .before .before .before .before .before .before .before .word .ensures) (c .before .if2 .taken) in
+    c .read-start .ensures
+    ∙ sym (call-start (c .before .before .before .before .before .before .before .before .before .args .line .now) (not-lend (c .before .before .before .before)) e)
 
 slice-aggregate-spells-3 : tie.Need-slice-aggregate-spells-3
 slice-aggregate-spells-3 c = search needs
@@ -65,44 +58,24 @@ slice-aggregate-spells-3 c = search needs
 spells-requires-3 : tie.Need-spells-requires-3
 spells-requires-3 c κs = search needs
 
-read-start-requires : tie.Need-read-start-requires
-read-start-requires c κs = search needs
-
-returns-3 : tie.Need-returns-3
-returns-3 c =
-    let e = spelled _ _ _ _ (ascii "start") (c .before .before .spells3 .ensures) (c .before .before .before .before .before .before .before .before .before .before .word .ensures)
-    (c .before .if3 .taken) in
-    c .read-start .ensures
-    ∙ sym (call-start (c .before .before .before .before .before .before .before .before .before .before .before .before .args .line .now)
-    (not-lend (c .before .before .before .before .before .before .before)) (not-edition (c .before .before .before .before)) e)
-
-slice-aggregate-spells-4 : tie.Need-slice-aggregate-spells-4
-slice-aggregate-spells-4 c = search needs
-
-spells-requires-4 : tie.Need-spells-requires-4
-spells-requires-4 c κs = search needs
-
 read-time-requires : tie.Need-read-time-requires
 read-time-requires c κs = search needs
 
+returns-3 : tie.Need-returns-3
+returns-3 c =
+    let e = spelled _ _ _ _ (ascii "time") (c .before .before .spells3 .ensures) (c .before .before .before .before .before .before .before .before .before .before .word .ensures) (c .before .if3 .taken) in
+    c .read-time .ensures
+    ∙ sym (call-time (c .before .before .before .before .before .before .before .before .before .before .before .before .args .line .now)
+    (not-lend (c .before .before .before .before .before .before .before)) (not-start (c .before .before .before .before)) e)
+
+read-choice-requires : tie.Need-read-choice-requires
+read-choice-requires c κs = search needs
+
 returns-4 : tie.Need-returns-4
 returns-4 c =
-    let e = spelled _ _ _ _ (ascii "time") (c .before .before .spells4 .ensures)
-    (c .before .before .before .before .before .before .before .before .before .before .before .before .before .word .ensures) (c .before .if4 .taken) in
-    c .read-time .ensures
-    ∙ sym (call-time (c .before .before .before .before .before .before .before .before .before .before .before .before .before .before .before .args .line .now)
-    (not-lend (c .before .before .before .before .before .before .before .before .before .before)) (not-edition (c .before .before .before .before .before .before .before))
-    (not-start (c .before .before .before .before)) e)
-
-read-change-requires : tie.Need-read-change-requires
-read-change-requires c κs = search needs
-
-returns-5 : tie.Need-returns-5
-returns-5 c =
-    c .read-change .ensures
-    ∙ sym (call-change (c .before .before .before .before .before .before .before .before .before .before .before .before .before .before .before .args .line .now)
-    (not-lend (c .before .before .before .before .before .before .before .before .before .before)) (not-edition (c .before .before .before .before .before .before .before))
-    (not-start (c .before .before .before .before)) (not-time (c .before)))
+    c .read-choice .ensures
+    ∙ sym (call-choice (c .before .before .before .before .before .before .before .before .before .before .before .before .args .line .now)
+    (not-lend (c .before .before .before .before .before .before .before)) (not-start (c .before .before .before .before)) (not-time (c .before)))
 
 pub read-call-spec : {M : Type 1} → statement M
 read-call-spec =
@@ -115,15 +88,11 @@ read-call-spec =
     returns
     slice-aggregate-spells-2
     spells-requires-2
-    read-edition-requires
+    read-start-requires
     returns-2
     slice-aggregate-spells-3
     spells-requires-3
-    read-start-requires
-    returns-3
-    slice-aggregate-spells-4
-    spells-requires-4
     read-time-requires
-    returns-4
-    read-change-requires
-    returns-5)
+    returns-3
+    read-choice-requires
+    returns-4)

@@ -2,12 +2,11 @@
 -- Assumes nothing.
 use mathlib.Core.Path.{_≡_, refl, sym, _∙_}
 use mathlib.Core.Option.{some}
-use Rattle.lists.proofs.ChoiceLaws.{none-there}
+use Rattle.lists.proofs.ChoiceLaws.{some-there, none-there}
 use Rattle.line.specs.Words.{word}
 use Rattle.line.specs.Line.{number32, kindsIn, startOf}
 use Rattle.line.specs.Command.{shown}
 use Rattle.line.proofs.CallLaws.{number32-read}
-use Rattle.line.proofs.KindLaws.{list-kinds}
 use borrow.Author.Needs.{needs}
 use Rattle.line.proofs.read_start.Statement.{statement}
 use Rattle.line.proofs.read_start.Tie as tie
@@ -67,7 +66,7 @@ returns-3 c =
     rw (
       signals-read (c .before .before .before .before .before .before .before),
       limit-read (c .before .before),
-      list-kinds (c .before .before .before .before .before .before .before .before .before .before .before .before .before .args .line .now)
+      some-there (kindsIn (c .before .before .before .before .before .before .before .before .before .before .before .before .before .args .line .now))
           (sym (c .before .has-kinds .ensures) ∙ c .if1 .taken),
     ) refl
 

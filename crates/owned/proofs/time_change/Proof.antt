@@ -125,7 +125,7 @@ module _ {M : Type 1} (𝓤 : URA M) (H : Heap 𝓤) (A : Atoms 𝓤) (W : Given
   abbrev to-whole : Outcome → List SignalRecord → Val → Whole 𝓤 H A mem run .Ghost
   to-whole h zs v = ((tt, tt, tt, (h, (zs, tt)), (LL.val O.the-type O′.the-laws h ∷ [], (v ∷ [], tt))), tt)
 
-  exits : (k : Kept) (ts′ : List ℕ) (ms′ : List ℕ) → after (replyOf (k .outcome .answer)) (memory (k .outcome .state) (k .records) ts′ ws ms′) ≡ timeOf (memory state kept ts ws ms) (stamp .time)
+  exits : (k : Kept) (ts′ : List ℕ) (ms′ : List ℕ) → after (replyOf (k .outcome .answer)) (memory (k .outcome .state) (k .records) ts′ ws ms′) ≡ timeOf (memory state kept ts ws ms) (stamp .sender) (stamp .time)
       → length ts′ ≡ length ts → length ms′ ≡ length ms → Is Kp.the-row k (LL.val Kp.the-type Kp′.the-laws k ∷ []) → ent 𝓤 (⋆ 𝓤 H A (‵ (flft κt qt) ∷ ‵ (flft κw qw) ∷ ‵ (flft κm qm) ∷ ‵ (finally u64 γt ts′) ∷ ‵ (ShrSlice (named 1) κw u8 .own (xw γw ws) (vw ∷ [])) ∷ ‵ (finally u8 γm ms′) ∷ [])) (Post (LL.val Kp.the-type Kp′.the-laws k))
   exits k ts′ ms′ e lent lenm is =
       qed W (‵ (flft κt qt) ∷ ‵ (flft κw qw) ∷ ‵ (flft κm qm) ∷ ‵ (finally u64 γt ts′) ∷ ‵ (ShrSlice (named 1) κw u8 .own (xw γw ws) (vw ∷ [])) ∷ ‵ (finally u8 γm ms′) ∷ []) ∵
@@ -164,8 +164,8 @@ module _ {M : Type 1} (𝓤 : URA M) (H : Heap 𝓤) (A : Atoms 𝓤) (W : Given
       calls-at ! (fmOf 𝓤 H (W .laws) 𝓣) (Go 𝓤 H A mem run) kg (to-go l₇ ν δ) (and-then ! (load ! (from ! (stop !)) (look ! 30 refl)) (and-then ! (load ! (from ! (stop !)) (look ! 13 refl)) (and-then ! (load ! (from ! (stop !)) (look ! 9 refl)) (and-then ! (load ! (from ! (stop !)) (look ! 24 refl)) (and-then ! (load ! (from ! (stop !)) (look ! 5 refl)) (and-then ! (load ! (from ! (stop !)) (look ! 20 refl)) (no-more !))))))) (λ u.
       use1 W (later (some (λ (h : Outcome). ((‵ (flft (ν ∷ []) fullShare) ⊛ ‵ (flft κt qt) ⊛ ‵ (flft κw qw) ⊛ ‵ (flft κm qm) ⊛ ‵ ftrue) ⊛ ‵ (O.the-row .own h (u ∷ []))) ⊛ raw (ensured 𝓤 H A go.ended (go.clauses 𝓤 H A mem run) (ν ∷ [], (κt, (κw, (κm, tt)))) (passed l₇ δ) tt h)))) (id⊢ 𝓤 _) $ await ! tt $ pick ! (λ h.
       split ! $ move ! (1 ∷ []) $
-      use1 W (some (λ (zs : Unit {0} × (List SignalRecord × (List ℕ × (Unit {0} × (List ℕ × (Unit {0} × Unit {0})))))). ‵ (lasts go.ended (ν ∷ [], (κt, (κw, (κm, tt)))) (passed l₇ δ) zs) ⊛ raw (fact 𝓤 (after (replyOf (h .answer)) (memory (h .state) (zs .1 .0) (zs .1 .1 .0) ws (zs .1 .1 .1 .1 .0)) ≡ timeOf (memory state kept ts ws ms) (stamp .time))))) (id⊢ 𝓤 _) $ pick ! (λ zs.
-      split ! $ move ! (1 ∷ []) $ heard ! (after (replyOf (h .answer)) (memory (h .state) (zs .1 .0) (zs .1 .1 .0) ws (zs .1 .1 .1 .1 .0)) ≡ timeOf (memory state kept ts ws ms) (stamp .time)) (λ e. fsplit ! $
+      use1 W (some (λ (zs : Unit {0} × (List SignalRecord × (List ℕ × (Unit {0} × (List ℕ × (Unit {0} × Unit {0})))))). ‵ (lasts go.ended (ν ∷ [], (κt, (κw, (κm, tt)))) (passed l₇ δ) zs) ⊛ raw (fact 𝓤 (after (replyOf (h .answer)) (memory (h .state) (zs .1 .0) (zs .1 .1 .0) ws (zs .1 .1 .1 .1 .0)) ≡ timeOf (memory state kept ts ws ms) (stamp .sender) (stamp .time))))) (id⊢ 𝓤 _) $ pick ! (λ zs.
+      split ! $ move ! (1 ∷ []) $ heard ! (after (replyOf (h .answer)) (memory (h .state) (zs .1 .0) (zs .1 .1 .0) ws (zs .1 .1 .1 .1 .0)) ≡ timeOf (memory state kept ts ws ms) (stamp .sender) (stamp .time)) (λ e. fsplit ! $
       drop ! $ fsplit ! $ fsplit ! $ move ! (1 ∷ []) $ feqL ! (λ lr. move ! (1 ∷ []) $ fsplit ! $ fsplit ! $ move ! (1 ∷ []) $ feqL ! (λ lt. move ! (1 ∷ []) $ fsplit ! $ drop ! $ fsplit ! $ fsplit ! $
       move ! (1 ∷ []) $ feqL ! (λ lm. move ! (1 ∷ []) $ fsplit ! $ drop ! $ drop ! $ move ! (3 ∷ []) $ split ! $ move ! (1 ∷ []) $ peeks ! O.the-row (Is O.the-row) (shows 𝓤 H A O.the-row) h (u ∷ []) (λ is.
       land ! (from ! (stop !)) (init ! 21 refl (LL.lawful O.the-type O′.the-laws 𝓤 H A W .typed h _ is .0)) $

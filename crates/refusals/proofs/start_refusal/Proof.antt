@@ -36,7 +36,7 @@ returns-5 c = search tests
 returns-6 : tie.Need-returns-6
 returns-6 c =
     let a = c .before .before .before .before .before .before .before .before .before .before .before .before .args in
-    let past = times-past (a .settings) (a .lent .records) (a .unknown) (a .lent .times) (a .lent .image) (omega arith) (omega arith) (omega arith) (omega arith) (omega arith) in
+    let past = times-past (a .settings) (a .lent .records) (a .bad) (a .lent .times) (a .lent .image) (omega arith) (omega arith) (omega arith) (omega arith) (omega arith) in
     c .signals-refusal .ensures ∙ sym past
 
 pub start-refusal-spec : {M : Type 1} → statement M

@@ -7,8 +7,8 @@ use borrow.Author.Needs.{needs}
 use Rattle.refusals.proofs.state_refusal.Statement.{statement}
 use Rattle.refusals.proofs.state_refusal.Tie as tie
 
-cast-if7 : tie.Need-cast-if7
-cast-if7 c = search needs
+cast-if8 : tie.Need-cast-if8
+cast-if8 c = search needs
 
 counts-refusal-requires : tie.Need-counts-refusal-requires
 counts-refusal-requires c κs = search needs
@@ -19,34 +19,38 @@ returns c = search (tests, c .if1 .taken)
 
 returns-2 : tie.Need-returns-2
 unfolding stateTests
-returns-2 c = search (tests, c .before .before .if1 .left)
+returns-2 c = search (tests, c .before .if1 .left, c .if2 .taken)
 
 returns-3 : tie.Need-returns-3
 unfolding stateTests
-returns-3 c = search (tests, c .before .before .before .before .if1 .left)
+returns-3 c = let f = c .before .before in search (tests, f .before .if1 .left, f .if2 .left)
 
 returns-4 : tie.Need-returns-4
 unfolding stateTests
-returns-4 c = search (tests, c .before .before .before .before .before .before .if1 .left)
+returns-4 c = let f = c .before .before .before .before in search (tests, f .before .if1 .left, f .if2 .left)
 
 returns-5 : tie.Need-returns-5
 unfolding stateTests
-returns-5 c = search (tests, c .before .before .before .before .before .before .before .before .if1 .left)
+returns-5 c = let f = c .before .before .before .before .before .before in search (tests, f .before .if1 .left, f .if2 .left)
 
 returns-6 : tie.Need-returns-6
 unfolding stateTests
-returns-6 c = search (tests, c .before .before .before .before .before .before .before .before .before .before .if1 .left)
+returns-6 c = let f = c .before .before .before .before .before .before .before .before in search (tests, f .before .if1 .left, f .if2 .left)
 
 returns-7 : tie.Need-returns-7
 unfolding stateTests
-returns-7 c = search (tests, c .before .before .before .before .before .before .before .before .before .before .before .before .before .if1 .left)
+returns-7 c = let f = c .before .before .before .before .before .before .before .before .before .before in search (tests, f .before .if1 .left, f .if2 .left)
 
 returns-8 : tie.Need-returns-8
-returns-8 c =
-    let a = c .before .before .before .before .before .before .before .before .before .before .before .before .before .before .before .args in
-    let s = a .state in
-    let past = limits-past s (a .lent .records) (a .lent .times) (a .work) (a .lent .image)
-    (c .before .before .before .before .before .before .before .before .before .before .before .before .before .before .if1 .left)
+unfolding stateTests
+returns-8 c = let f = c .before .before .before .before .before .before .before .before .before .before .before .before .before in search (tests, f .before .if1 .left, f .if2 .left)
+
+returns-9 : tie.Need-returns-9
+returns-9 c =
+    let a = c .before .before .before .before .before .before .before .before .before .before .before .before .before .before .before .before .args in
+    let past = limits-past (a .state) (a .foreign) (a .lent .records) (a .lent .times) (a .work) (a .lent .image)
+    (c .before .before .before .before .before .before .before .before .before .before .before .before .before .before .before .if1 .left)
+    (c .before .before .before .before .before .before .before .before .before .before .before .before .before .before .if2 .left)
     (omega arith) (omega arith) (omega arith) (omega arith) (omega arith) (omega arith) in
     c .counts-refusal .ensures ∙ sym past
 
@@ -54,7 +58,7 @@ pub state-refusal-spec : {M : Type 1} → statement M
 state-refusal-spec =
     tie.close
     (tie.spec
-    cast-if7
+    cast-if8
     counts-refusal-requires
     returns
     returns-2
@@ -63,4 +67,5 @@ state-refusal-spec =
     returns-5
     returns-6
     returns-7
-    returns-8)
+    returns-8
+    returns-9)

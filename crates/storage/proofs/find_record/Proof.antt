@@ -22,7 +22,7 @@ returns c =
     let b = c .before .before in
     let a = b .before .before .args in
     let e = c .absent-record .ensures in
-    (e ∙ sym (records-past (a .records .now) (a .signal .0) (recordOf Absent 0 Two) (omega (arith, c .before .if1 .taken, b .place-of .ensures))), rw e storable-absent)
+    (e ∙ sym (records-past (a .records .now) (a .signal .0) (recordOf Absent 0 Two 0) (omega (arith, c .before .if1 .taken, b .place-of .ensures))), rw e storable-absent)
 
 mul-record-from : tie.Need-mul-record-from
 mul-record-from c = search needs
@@ -41,7 +41,7 @@ returns-2 c =
     let l = a .records .now in
     let i = p .place-of .result in
     let e = c .record-from .ensures in
-    (rw (← (p .place-of .ensures)) (e ∙ sym (records-get l i (recordOf Absent 0 Two) (omega arith))), rw e (stored (getD l i 0) (b .shared-slice-known2 .given i .fits)))
+    (rw (← (p .place-of .ensures)) (e ∙ sym (records-get l i (recordOf Absent 0 Two 0) (omega arith))), rw e (stored (getD l i 0) (b .shared-slice-known2 .given i .fits)))
 
 pub find-record-spec : {M : Type 1} → statement M
 find-record-spec =

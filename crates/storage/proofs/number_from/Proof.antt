@@ -1,10 +1,24 @@
 -- `storage::number_from` meets its contract: it computes what `numberFrom` says.
 -- Assumes nothing.
-use mathlib.Core.Path.{refl}
 use Rattle.storage.specs.Storage.{numberFrom}
 use borrow.Author.Needs.{needs}
 use Rattle.storage.proofs.number_from.Statement.{statement}
 use Rattle.storage.proofs.number_from.Tie as tie
+
+cast-counted : tie.Need-cast-counted
+cast-counted c = search needs
+
+mul-counted : tie.Need-mul-counted
+mul-counted c = search needs
+
+number-requires : tie.Need-number-requires
+number-requires c κs = search needs
+
+cast-counted-2 : tie.Need-cast-counted-2
+cast-counted-2 c = search needs
+
+add-counted : tie.Need-add-counted
+add-counted c = search needs
 
 kind-number-requires : tie.Need-kind-number-requires
 kind-number-requires c κs = search needs
@@ -18,12 +32,6 @@ cast-result-2 c = search needs
 mul-result : tie.Need-mul-result
 mul-result c = search needs
 
-number-requires : tie.Need-number-requires
-number-requires c κs = search needs
-
-cast-result-3 : tie.Need-cast-result-3
-cast-result-3 c = search needs
-
 add-result : tie.Need-add-result
 add-result c = search needs
 
@@ -35,18 +43,21 @@ add-result-2 c = search needs
 
 returns : tie.Need-returns
 unfolding numberFrom
-returns c = rw (c .before .before .kind-number .ensures, c .number .ensures) refl
+returns c = search needs
 
 pub number-from-spec : {M : Type 1} → statement M
 number-from-spec =
     tie.close
     (tie.spec
+    cast-counted
+    mul-counted
+    number-requires
+    cast-counted-2
+    add-counted
     kind-number-requires
     cast-result
     cast-result-2
     mul-result
-    number-requires
-    cast-result-3
     add-result
     mul-result-2
     add-result-2

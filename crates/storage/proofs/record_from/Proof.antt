@@ -18,8 +18,11 @@ cast-from-number c = search needs
 from-number-requires : tie.Need-from-number-requires
 from-number-requires c κs = search needs
 
-cast-t6 : tie.Need-cast-t6
-cast-t6 c = search needs
+cast-t7 : tie.Need-cast-t7
+cast-t7 c = search needs
+
+cast-t8 : tie.Need-cast-t8
+cast-t8 c = search needs
 
 returns : tie.Need-returns
 unfolding recordFrom
@@ -33,5 +36,6 @@ record-from-spec =
     kind-from-requires
     cast-from-number
     from-number-requires
-    cast-t6
+    cast-t7
+    cast-t8
     returns)

@@ -157,7 +157,7 @@ module _ {M : Type 1} (𝓤 : URA M) (H : Heap 𝓤) (A : Atoms 𝓤) (W : Given
   abbrev to-put : SignalRecord → Put 𝓤 H A mem run .Ghost
   to-put k = (((κr, tt), (qr, tt), tt, (xr γr ys, (target .signal, (k, tt))), (vr ∷ [], (LL.val S.the-type S′.the-laws (target .signal) ∷ [], (vals k, tt)))), tt)
 
-  exits : (h : Changed) (zs : List SignalRecord) (cs : List ℕ) → after (replyOf (h .answer)) (memory (h .state) zs ts cs ms) ≡ changeOf (memory state ys ts ws ms) (target .signal .0) (says-in value bs)
+  exits : (h : Changed) (zs : List SignalRecord) (cs : List ℕ) → after (replyOf (h .answer)) (memory (h .state) zs ts cs ms) ≡ changeOf (memory state ys ts ws ms) (target .sender) (target .signal .0) (says-in value bs)
       → length zs ≡ length ys → length cs ≡ length ws → Is O.the-row (outcome h) (LL.val O.the-type O′.the-laws (outcome h) ∷ []) → ent 𝓤 (⋆ 𝓤 H A (‵ (flft κr qr) ∷ ‵ (flft κt qt) ∷ ‵ (flft κw qw) ∷ ‵ (flft κm qm) ∷ ‵ (flft κb qb) ∷ ‵ (finally T.the-row γr zs) ∷ ‵ (ShrSlice (named 1) κt u64 .own (xt γt ts) (vt ∷ [])) ∷ ‵ (finally u8 γw cs) ∷ ‵ (ShrSlice (named 3) κm u8 .own (xm γm ms) (vm ∷ [])) ∷ ‵ (ShrSlice (named 4) κb u8 .own (xb γb bs) (vb ∷ [])) ∷ [])) (Post (LL.val O.the-type O′.the-laws (outcome h)))
   exits h zs cs e lenr lenw is =
       qed W (‵ (flft κr qr) ∷ ‵ (flft κt qt) ∷ ‵ (flft κw qw) ∷ ‵ (flft κm qm) ∷ ‵ (flft κb qb) ∷ ‵ (finally T.the-row γr zs) ∷ ‵ (ShrSlice (named 1) κt u64 .own (xt γt ts) (vt ∷ [])) ∷ ‵ (finally u8 γw cs) ∷ ‵ (ShrSlice (named 3) κm u8 .own (xm γm ms) (vm ∷ [])) ∷ ‵ (ShrSlice (named 4) κb u8 .own (xb γb bs) (vb ∷ [])) ∷ []) ∵
@@ -188,7 +188,7 @@ module _ {M : Type 1} (𝓤 : URA M) (H : Heap 𝓤) (A : Atoms 𝓤) (W : Given
       use2 W (later (some (λ (δ : GName). ‵ (ShrSlice (named 0) (ν ∷ []) T.the-row .own (xr δ ys) (vr ∷ [])) ⊛ ‵ (LentShared T.the-row κr (ν ∷ []) qr γr br or ys)))) (lends-shared T.the-row κr (ν ∷ []) qr γr br or ys 𝓤 H A W (named 0) (named 0)) $ await ! tt $ pick ! (λ δ.
       split ! $ nothing ! $ move ! (3 ∷ 0 ∷ []) $ join ! $ nothing ! $ owned ! S.the-row (Is S.the-row) (LL.makes S.the-type S′.the-plain 𝓤 H A) (target .signal) _ signal-is $ fjoin ! $ move ! (2 ∷ 0 ∷ []) $
       fjoin ! $ move ! (1 ∷ 0 ∷ []) $ join ! $ nothing ! $ move ! (1 ∷ 0 ∷ []) $ join ! $ use1 W (raw (Find 𝓤 H A mem run .pre (to-find ν δ))) (id⊢ 𝓤 _) $
-      calls-at ! (fmOf 𝓤 H (W .laws) 𝓣) (Find 𝓤 H A mem run) kf (to-find ν δ) (and-then ! (load ! (from ! (stop !)) (look ! 12 refl)) (and-then ! (load ! (from ! (fld ! refl (stop !))) (look-in ! 32 (sub ! 0 refl (whole !)))) (no-more !))) (λ u.
+      calls-at ! (fmOf 𝓤 H (W .laws) 𝓣) (Find 𝓤 H A mem run) kf (to-find ν δ) (and-then ! (load ! (from ! (stop !)) (look ! 12 refl)) (and-then ! (load ! (from ! (fld ! refl (stop !))) (look-in ! 32 (sub ! 1 refl (whole !)))) (no-more !))) (λ u.
       use1 W (later (some (λ (k : SignalRecord). ((‵ (flft (ν ∷ []) fullShare) ⊛ ‵ ftrue) ⊛ ‵ (T.the-row .own k (u ∷ []))) ⊛ raw (ensured 𝓤 H A find.ended (find.clauses 𝓤 H A mem run) (ν ∷ [], tt) (xr δ ys, (target .signal, tt)) tt k)))) (id⊢ 𝓤 _) $ await ! tt $ pick ! (λ k.
       split ! $ move ! (1 ∷ []) $ use1 W (raw (fact 𝓤 (k ≡ old))) (exE 𝓤 _ (λ ws. snd∗ 𝓤 (sem 𝓤 H A (lasts find.ended (ν ∷ [], tt) (xr δ ys, (target .signal, tt)) ws)) (fact 𝓤 (k ≡ old)))) $
       heard ! (k ≡ old) (λ e₁. split ! $ rewrite ! 1 (λ (z : SignalRecord). ‵ (T.the-row .own z (u ∷ []))) e₁ refl $ move ! (1 ∷ []) $
@@ -207,9 +207,9 @@ module _ {M : Type 1} (𝓤 : URA M) (H : Heap 𝓤) (A : Atoms 𝓤) (W : Given
       calls-at ! (fmOf 𝓤 H (W .laws) 𝓣) (Work 𝓤 H A mem run) kw to-work (and-then ! (load ! (from ! (stop !)) (look ! 44 refl)) (and-then ! (load ! (from ! (stop !)) (look ! 26 refl)) (and-then ! (load ! (from ! (stop !)) (look ! 28 refl)) (and-then ! (load ! (from ! (stop !)) (look ! 34 refl)) (and-then ! (load ! (from ! (stop !)) (look ! 32 refl)) (and-then ! (load ! (from ! (stop !)) (look ! 30 refl)) (and-then ! (load ! (from ! (stop !)) (look ! 10 refl)) (no-more !)))))))) (λ w.
       use1 W (later (some (λ (h : Changed). ((‵ (flft κb qb) ⊛ ‵ (flft κw qw) ⊛ ‵ ftrue) ⊛ ‵ (Ch.the-row .own h (w ∷ []))) ⊛ raw (ensured 𝓤 H A work.ended (work.clauses 𝓤 H A mem run) (κb, (κw, tt)) (state, (old, (lent, (target, (value, (xb γb bs, (xw γw ws, tt))))))) tt h)))) (id⊢ 𝓤 _) $ await ! tt $ pick ! (λ h.
       split ! $ move ! (1 ∷ []) $
-      use1 W (some (λ (cs : Unit {0} × (Unit {0} × (Unit {0} × (Unit {0} × (Unit {0} × (Unit {0} × (List ℕ × Unit {0}))))))). ‵ (lasts work.ended (κb, (κw, tt)) (state, (old, (lent, (target, (value, (xb γb bs, (xw γw ws, tt))))))) cs) ⊛ raw (fact 𝓤 (found (replyOf (h .answer)) (h .state) (h .kept) (cs .1 .1 .1 .1 .1 .1 .0) ≡ foundOf state old (length ys) (length ts) (length ms) ws (target .signal .0) (says-in value bs))))) (id⊢ 𝓤 _) $ pick ! (λ cs.
+      use1 W (some (λ (cs : Unit {0} × (Unit {0} × (Unit {0} × (Unit {0} × (Unit {0} × (Unit {0} × (List ℕ × Unit {0}))))))). ‵ (lasts work.ended (κb, (κw, tt)) (state, (old, (lent, (target, (value, (xb γb bs, (xw γw ws, tt))))))) cs) ⊛ raw (fact 𝓤 (found (replyOf (h .answer)) (h .state) (h .kept) (cs .1 .1 .1 .1 .1 .1 .0) ≡ foundOf state old (length ys) (length ts) (length ms) ws (target .sender) (target .signal .0) (says-in value bs))))) (id⊢ 𝓤 _) $ pick ! (λ cs.
       split ! $ move ! (1 ∷ []) $
-      heard ! (found (replyOf (h .answer)) (h .state) (h .kept) (cs .1 .1 .1 .1 .1 .1 .0) ≡ foundOf state old (length ys) (length ts) (length ms) ws (target .signal .0) (says-in value bs)) (λ e₂. fsplit ! $
+      heard ! (found (replyOf (h .answer)) (h .state) (h .kept) (cs .1 .1 .1 .1 .1 .1 .0) ≡ foundOf state old (length ys) (length ts) (length ms) ws (target .sender) (target .signal .0) (says-in value bs)) (λ e₂. fsplit ! $
       drop ! $ fsplit ! $ drop ! $ fsplit ! $ drop ! $ fsplit ! $ drop ! $ fsplit ! $ drop ! $ fsplit ! $ drop ! $ fsplit ! $ fsplit ! $ move ! (1 ∷ []) $ feqL ! (λ lw. move ! (1 ∷ []) $ drop ! $
       move ! (1 ∷ []) $ split ! $ move ! (1 ∷ []) $ peeks ! Ch.the-row (Is Ch.the-row) (shows 𝓤 H A Ch.the-row) h (w ∷ []) (λ is₂.
       land ! (from ! (stop !)) (init ! 26 refl (LL.lawful Ch.the-type Ch′.the-laws 𝓤 H A W .typed h _ is₂ .0)) $
@@ -219,7 +219,7 @@ module _ {M : Type 1} (𝓤 : URA M) (H : Heap 𝓤) (A : Atoms 𝓤) (W : Given
       nothing ! $ move ! (6 ∷ 0 ∷ []) $ join ! $ nothing ! $ owned ! T.the-row (Is T.the-row) (made 𝓤 H A W) (h .kept) _ (LL.owed Ch.the-type Ch′.the-laws h _ is₂ .1 .1 .0) $ fjoin ! $
       owned ! S.the-row (Is S.the-row) (LL.makes S.the-type S′.the-plain 𝓤 H A) (target .signal) _ signal-is $ fjoin ! $ move ! (6 ∷ 0 ∷ []) $ fjoin ! $ move ! (1 ∷ 0 ∷ []) $ join ! $ nothing ! $
       move ! (1 ∷ 0 ∷ []) $ join ! $ use1 W (raw (Put 𝓤 H A mem run .pre (to-put (h .kept)))) (id⊢ 𝓤 _) $
-      calls-at ! (fmOf 𝓤 H (W .laws) 𝓣) (Put 𝓤 H A mem run) kp (to-put (h .kept)) (and-then ! (load ! (from ! (stop !)) (look ! 5 refl)) (and-then ! (load ! (from ! (fld ! refl (stop !))) (look-in ! 35 (sub ! 0 refl (whole !)))) (and-then ! (load ! (from ! (fld ! refl (stop !))) (look-in ! 25 (sub ! 2 refl (whole !)))) (no-more !)))) (λ w₃.
+      calls-at ! (fmOf 𝓤 H (W .laws) 𝓣) (Put 𝓤 H A mem run) kp (to-put (h .kept)) (and-then ! (load ! (from ! (stop !)) (look ! 5 refl)) (and-then ! (load ! (from ! (fld ! refl (stop !))) (look-in ! 35 (sub ! 1 refl (whole !)))) (and-then ! (load ! (from ! (fld ! refl (stop !))) (look-in ! 25 (sub ! 2 refl (whole !)))) (no-more !)))) (λ w₃.
       use1 W (later (some (λ (x : Unit {0}). ((‵ (flft κr qr) ⊛ ‵ ftrue) ⊛ ‵ (unit .own x (w₃ ∷ []))) ⊛ raw (ensured 𝓤 H A put.ended (put.clauses 𝓤 H A mem run) (κr, tt) (xr γr ys, (target .signal, (h .kept, tt))) tt x)))) (id⊢ 𝓤 _) $ await ! tt $ pick ! (λ x.
       split ! $ move ! (1 ∷ []) $
       use1 W (some (λ (zs : List SignalRecord × (Unit {0} × (Unit {0} × Unit {0}))). ‵ (lasts put.ended (κr, tt) (xr γr ys, (target .signal, (h .kept, tt))) zs) ⊛ raw (fact 𝓤 (zs .0 ≡ set ys (target .signal .0) (h .kept))))) (id⊢ 𝓤 _) $ pick ! (λ zs.
@@ -234,10 +234,10 @@ module _ {M : Type 1} (𝓤 : URA M) (H : Heap 𝓤) (A : Atoms 𝓤) (W : Given
       move ! (28 ∷ 29 ∷ []) $ free1 ! $ move ! (26 ∷ 27 ∷ []) $ free1 ! $ move ! (24 ∷ 25 ∷ []) $ free1 ! $ move ! (22 ∷ 23 ∷ []) $ free1 ! $ move ! (20 ∷ 21 ∷ []) $ free1 ! $
       move ! (18 ∷ 19 ∷ []) $ free1 ! $ move ! (16 ∷ 17 ∷ []) $ free1 ! $ move ! (14 ∷ 15 ∷ []) $ free1 ! $ move ! (12 ∷ 13 ∷ []) $ free1 ! $ move ! (10 ∷ 11 ∷ []) $ free1 ! $
       move ! (8 ∷ 9 ∷ []) $ free1 ! $ move ! (6 ∷ 7 ∷ []) $ free1 ! $ free0 ! $ keep ! (0 ∷ 7 ∷ 2 ∷ 9 ∷ 3 ∷ 1 ∷ 6 ∷ 4 ∷ 8 ∷ 5 ∷ []) $
-      by ! (exits h (zs .0) (cs .1 .1 .1 .1 .1 .1 .0) (change-made (h .answer) state (h .state) old (h .kept) ys (zs .0) ts ws (cs .1 .1 .1 .1 .1 .1 .0) ms (target .signal .0) (says-in value bs) refl e₂ e₃) lr lw (made-is h is₂))))))))))))))))))))))))))))))))))))))))))
+      by ! (exits h (zs .0) (cs .1 .1 .1 .1 .1 .1 .0) (change-made (h .answer) state (h .state) old (h .kept) ys (zs .0) ts ws (cs .1 .1 .1 .1 .1 .1 .0) ms (target .sender) (target .signal .0) (says-in value bs) refl e₂ e₃) lr lw (made-is h is₂))))))))))))))))))))))))))))))))))))))))))
     where
       signal-is : Is S.the-row (target .signal) (LL.val S.the-type S′.the-laws (target .signal) ∷ [])
-      signal-is = LL.owed Tg.the-type Tg′.the-laws target _ target-is .0
+      signal-is = LL.owed Tg.the-type Tg′.the-laws target _ target-is .1 .0
 
       lent-is : Is G.the-row lent (LL.vals G.the-type G′.the-laws lent)
       lent-is = LL.owes G.the-type G′.the-laws lent ((refl, roomr .0), ((refl, roomt .0), ((refl, roomm .0), tt)))

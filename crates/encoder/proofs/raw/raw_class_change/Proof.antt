@@ -181,7 +181,7 @@ module _ {M : Type 1} (𝓤 : URA M) (H : Heap 𝓤) (A : Atoms 𝓤) (W : Given
   abbrev to-go : Go 𝓤 H A mem run .Ghost
   to-go = ((κs, (qr, (qt, (qw, (qm, (qb, tt))))), tt, given-go, (LL.val E.the-type E′.the-laws state ∷ [], (vr ∷ [], (vt ∷ [], (vw ∷ [], (vm ∷ [], (LL.val Tg.the-type Tg′.the-laws target ∷ [], (vd ∷ [], tt)))))))), tt)
 
-  exits : (h : Outcome) (zs : List SignalRecord) (cs : List ℕ) → after (replyOf (h .answer)) (memory (h .state) zs ts cs ms) ≡ changeOf (memory state ys ts ws ms) (target .signal .0) (says-in (Raw (classNumber class)) bs)
+  exits : (h : Outcome) (zs : List SignalRecord) (cs : List ℕ) → after (replyOf (h .answer)) (memory (h .state) zs ts cs ms) ≡ changeOf (memory state ys ts ws ms) (target .sender) (target .signal .0) (says-in (Raw (classNumber class)) bs)
       → length zs ≡ length ys → length cs ≡ length ws → Is O.the-row h (LL.val O.the-type O′.the-laws h ∷ []) → ent 𝓤 (⋆ 𝓤 H A (‵ (flft κr qr) ∷ ‵ (flft κt qt) ∷ ‵ (flft κw qw) ∷ ‵ (flft κm qm) ∷ ‵ (flft κb qb) ∷ ‵ (finally T.the-row γr zs) ∷ ‵ (ShrSlice (named 1) κt u64 .own (xt γt ts) (vt ∷ [])) ∷ ‵ (finally u8 γw cs) ∷ ‵ (ShrSlice (named 3) κm u8 .own (xm γm ms) (vm ∷ [])) ∷ ‵ (ShrSlice (named 4) κb u8 .own (xb γb bs) (vb ∷ [])) ∷ [])) (Post (LL.val O.the-type O′.the-laws h))
   exits h zs cs e lenr lenw is =
       qed W (‵ (flft κr qr) ∷ ‵ (flft κt qt) ∷ ‵ (flft κw qw) ∷ ‵ (flft κm qm) ∷ ‵ (flft κb qb) ∷ ‵ (finally T.the-row γr zs) ∷ ‵ (ShrSlice (named 1) κt u64 .own (xt γt ts) (vt ∷ [])) ∷ ‵ (finally u8 γw cs) ∷ ‵ (ShrSlice (named 3) κm u8 .own (xm γm ms) (vm ∷ [])) ∷ ‵ (ShrSlice (named 4) κb u8 .own (xb γb bs) (vb ∷ [])) ∷ []) ∵
@@ -208,7 +208,7 @@ module _ {M : Type 1} (𝓤 : URA M) (H : Heap 𝓤) (A : Atoms 𝓤) (W : Given
       use2 W (later (some (λ (δ : GName). ‵ (ShrSlice (named 0) (ν ∷ []) T.the-row .own (xr δ ys) (vr ∷ [])) ⊛ ‵ (LentShared T.the-row κr (ν ∷ []) qr γr br or ys)))) (lends-shared T.the-row κr (ν ∷ []) qr γr br or ys 𝓤 H A W (named 0) (named 0)) $ await ! tt $ pick ! (λ δ.
       split ! $ nothing ! $ move ! (3 ∷ 0 ∷ []) $ join ! $ nothing ! $ owned ! S.the-row (Is S.the-row) (LL.makes S.the-type S′.the-plain 𝓤 H A) (target .signal) _ signal-is $ fjoin ! $ move ! (2 ∷ 0 ∷ []) $
       fjoin ! $ move ! (1 ∷ 0 ∷ []) $ join ! $ nothing ! $ move ! (1 ∷ 0 ∷ []) $ join ! $ use1 W (raw (Find 𝓤 H A mem run .pre (to-find ν δ))) (id⊢ 𝓤 _) $
-      calls-at ! (fmOf 𝓤 H (W .laws) 𝓣) (Find 𝓤 H A mem run) ka (to-find ν δ) (and-then ! (load ! (from ! (stop !)) (look ! 12 refl)) (and-then ! (load ! (from ! (fld ! refl (stop !))) (look-in ! 26 (sub ! 0 refl (whole !)))) (no-more !))) (λ u.
+      calls-at ! (fmOf 𝓤 H (W .laws) 𝓣) (Find 𝓤 H A mem run) ka (to-find ν δ) (and-then ! (load ! (from ! (stop !)) (look ! 12 refl)) (and-then ! (load ! (from ! (fld ! refl (stop !))) (look-in ! 26 (sub ! 1 refl (whole !)))) (no-more !))) (λ u.
       use1 W (later (some (λ (k : SignalRecord). ((‵ (flft (ν ∷ []) fullShare) ⊛ ‵ ftrue) ⊛ ‵ (T.the-row .own k (u ∷ []))) ⊛ raw (ensured 𝓤 H A find.ended (find.clauses 𝓤 H A mem run) (ν ∷ [], tt) (xr δ ys, (target .signal, tt)) tt k)))) (id⊢ 𝓤 _) $ await ! tt $ pick ! (λ k.
       split ! $ move ! (1 ∷ []) $ use1 W (raw (fact 𝓤 (k ≡ old))) (exE 𝓤 _ (λ ws. snd∗ 𝓤 (sem 𝓤 H A (lasts find.ended (ν ∷ [], tt) (xr δ ys, (target .signal, tt)) ws)) (fact 𝓤 (k ≡ old)))) $
       heard ! (k ≡ old) (λ e₁. split ! $ rewrite ! 1 (λ (z : SignalRecord). ‵ (T.the-row .own z (u ∷ []))) e₁ refl $ move ! (1 ∷ []) $
@@ -243,9 +243,9 @@ module _ {M : Type 1} (𝓤 : URA M) (H : Heap 𝓤) (A : Atoms 𝓤) (W : Given
       calls-at ! (fmOf 𝓤 H (W .laws) 𝓣) (Go 𝓤 H A mem run) kc to-go (and-then ! (load ! (from ! (stop !)) (look ! 38 refl)) (and-then ! (load ! (from ! (stop !)) (look ! 10 refl)) (and-then ! (load ! (from ! (stop !)) (look ! 34 refl)) (and-then ! (load ! (from ! (stop !)) (look ! 6 refl)) (and-then ! (load ! (from ! (stop !)) (look ! 30 refl)) (and-then ! (load ! (from ! (stop !)) (look ! 28 refl)) (and-then ! (load ! (from ! (stop !)) (look ! 4 refl)) (no-more !)))))))) (λ w₂.
       use1 W (later (some (λ (h : Outcome). ((‵ (flft κr qr) ⊛ ‵ (flft κt qt) ⊛ ‵ (flft κw qw) ⊛ ‵ (flft κm qm) ⊛ ‵ (flft κb qb) ⊛ ‵ ftrue) ⊛ ‵ (O.the-row .own h (w₂ ∷ []))) ⊛ raw (ensured 𝓤 H A go.ended (go.clauses 𝓤 H A mem run) κs given-go tt h)))) (id⊢ 𝓤 _) $ await ! tt $ pick ! (λ h.
       split ! $ move ! (1 ∷ []) $
-      use1 W (some (λ (zs : Unit {0} × (List SignalRecord × (Unit {0} × (List ℕ × (Unit {0} × (Unit {0} × (Unit {0} × Unit {0}))))))). ‵ (lasts go.ended κs given-go zs) ⊛ raw (fact 𝓤 (after (replyOf (h .answer)) (memory (h .state) (zs .1 .0) ts (zs .1 .1 .1 .0) ms) ≡ changeOf (memory state ys ts ws ms) (target .signal .0) (says-in (Raw (classNumber class)) bs))))) (id⊢ 𝓤 _) $ pick ! (λ zs.
+      use1 W (some (λ (zs : Unit {0} × (List SignalRecord × (Unit {0} × (List ℕ × (Unit {0} × (Unit {0} × (Unit {0} × Unit {0}))))))). ‵ (lasts go.ended κs given-go zs) ⊛ raw (fact 𝓤 (after (replyOf (h .answer)) (memory (h .state) (zs .1 .0) ts (zs .1 .1 .1 .0) ms) ≡ changeOf (memory state ys ts ws ms) (target .sender) (target .signal .0) (says-in (Raw (classNumber class)) bs))))) (id⊢ 𝓤 _) $ pick ! (λ zs.
       split ! $ move ! (1 ∷ []) $
-      heard ! (after (replyOf (h .answer)) (memory (h .state) (zs .1 .0) ts (zs .1 .1 .1 .0) ms) ≡ changeOf (memory state ys ts ws ms) (target .signal .0) (says-in (Raw (classNumber class)) bs)) (λ e. fsplit ! $
+      heard ! (after (replyOf (h .answer)) (memory (h .state) (zs .1 .0) ts (zs .1 .1 .1 .0) ms) ≡ changeOf (memory state ys ts ws ms) (target .sender) (target .signal .0) (says-in (Raw (classNumber class)) bs)) (λ e. fsplit ! $
       drop ! $ fsplit ! $ fsplit ! $ move ! (1 ∷ []) $ feqL ! (λ lr. move ! (1 ∷ []) $ fsplit ! $ drop ! $ fsplit ! $ fsplit ! $ move ! (1 ∷ []) $ feqL ! (λ lw. move ! (1 ∷ []) $ fsplit ! $ drop ! $
       fsplit ! $ drop ! $ fsplit ! $ drop ! $ drop ! $ move ! (2 ∷ []) $ split ! $ move ! (1 ∷ []) $ peeks ! O.the-row (Is O.the-row) (shows 𝓤 H A O.the-row) h (w₂ ∷ []) (λ is.
       land ! (from ! (stop !)) (init ! 43 refl (LL.lawful O.the-type O′.the-laws 𝓤 H A W .typed h _ is .0)) $
@@ -259,7 +259,7 @@ module _ {M : Type 1} (𝓤 : URA M) (H : Heap 𝓤) (A : Atoms 𝓤) (W : Given
       by ! (exits h (zs .1 .0) (zs .1 .1 .1 .0) e lr lw (at-vals h is))))))))))))))))))))))))))))))))))))))
     where
       signal-is : Is S.the-row (target .signal) (LL.val S.the-type S′.the-laws (target .signal) ∷ [])
-      signal-is = LL.owed Tg.the-type Tg′.the-laws target _ target-is .0
+      signal-is = LL.owed Tg.the-type Tg′.the-laws target _ target-is .1 .0
 
       at-old : {u : Val} → Is T.the-row old (u ∷ []) → Is T.the-row old (vals old)
       at-old is = subst (Is T.the-row old) (LL.tells T.the-type T′.the-laws old _ is) is

@@ -1,4 +1,4 @@
--- `start` meets its contract: its code is walked. The records are lent to `has_unknown_kind` and given to `start_records`, the image is lent to
+-- `start` meets its contract: its code is walked. The records are lent to `has_bad_record` and given to `start_records`, the image is lent to
 -- `begin` and given to `start_records`.
 -- Assumes nothing.
 use mathlib.Core.Path.{_≡_, refl, sym, _∙_, ap, subst}
@@ -47,7 +47,7 @@ use Rattle.recording.specs.declared.Settings.{Settings}
 use Rattle.recording.specs.Calls.{replyOf}
 use Rattle.recording.specs.Memory.{memory, after}
 use Rattle.recording.specs.Step.{startOf, fresh}
-use Rattle.recording.specs.Refusals.{unknownKind}
+use Rattle.recording.specs.Refusals.{anyBad}
 use Rattle.records.proofs.Shared.{LentShared, lends-shared, shared-back}
 use Rattle.records.proofs.Again.{LentAgain, lends-again, comes-back}
 use Rattle.recording.proofs.SignalRecord as T
@@ -65,10 +65,10 @@ use Rattle.plan.proofs.BeginLaws.{begin-fits, start-carried}
 use Rattle.encoder.proofs.StepLaws.{started-out}
 use Rattle.plan.proofs.Begun as Bg
 use Rattle.plan.proofs.Begun.Laws as Bg′
-use Rattle.records.proofs.has_unknown_kind as has
-use Rattle.records.proofs.has_unknown_kind.Symbol as has-def
-use Rattle.records.proofs.has_unknown_kind.Symbol.{name as #records·has-unknown-kind}
-use Rattle.records.proofs.has_unknown_kind.Met as has-thm
+use Rattle.records.proofs.has_bad_record as has
+use Rattle.records.proofs.has_bad_record.Symbol as has-def
+use Rattle.records.proofs.has_bad_record.Symbol.{name as #records·has-bad-record}
+use Rattle.records.proofs.has_bad_record.Met as has-thm
 use Rattle.plan.proofs.start.begin as starts
 use Rattle.plan.proofs.start.begin.Symbol as starts-def
 use Rattle.plan.proofs.start.begin.Symbol.{name as #plan·start·begin}
@@ -120,20 +120,20 @@ module _ {M : Type 1} (𝓤 : URA M) (H : Heap 𝓤) (A : Atoms 𝓤) (W : Given
   abbrev Post : Val → SProp 𝓤
   Post = walkOf 𝓤 H A main.ended stayed (main.clauses 𝓤 H A mem run) .post (((κr, (κt, (κm, tt))), (qr, (qt, (qm, tt))), bounds, (state, (settings, (xr γr ys, (xt γt ts, (xm γm ms, tt))))), at), tt)
 
-  abbrev unknown : Bool
-  unknown = unknownKind ys
+  abbrev bad : Bool
+  bad = anyBad ys
 
   abbrev begun : Begun
-  begun = beginOf state settings unknown (length ys) (length ts) (length ms)
+  begun = beginOf state settings bad (length ys) (length ts) (length ms)
 
   abbrev to-has : ℕ → GName → Has 𝓤 H A mem run .Ghost
   to-has ν δ = (((ν ∷ [], tt), (fullShare, tt), tt, (xr δ ys, tt), (vr ∷ [], tt)), tt)
 
   abbrev given-begin : GName → Encoder × (Settings × (Bool × (ℕ × (ℕ × (RefT (List ℕ) × Unit {0})))))
-  given-begin ε = (state, (settings, (unknown, (length ys, (length ts, (xm ε ms, tt))))))
+  given-begin ε = (state, (settings, (bad, (length ys, (length ts, (xm ε ms, tt))))))
 
   abbrev to-begin : ℕ → GName → Starts 𝓤 H A mem run .Ghost
-  to-begin μ ε = (((μ ∷ [], tt), (fullShare, tt), tt, given-begin ε, (LL.val E.the-type E′.the-laws state ∷ [], (LL.val Se.the-type Se′.the-laws settings ∷ [], (bool-vals unknown, (vint w64 (length ys) ∷ [], (vint w64 (length ts) ∷ [], (vm ∷ [], tt))))))), tt)
+  to-begin μ ε = (((μ ∷ [], tt), (fullShare, tt), tt, given-begin ε, (LL.val E.the-type E′.the-laws state ∷ [], (LL.val Se.the-type Se′.the-laws settings ∷ [], (bool-vals bad, (vint w64 (length ys) ∷ [], (vint w64 (length ts) ∷ [], (vm ∷ [], tt))))))), tt)
 
   abbrev given-loop : List ℕ → RefT (List SignalRecord) × (ℕ × (RefT (List ℕ) × Unit {0}))
   given-loop l = (xr γr ys, (begun .turns, (xm γm l, tt)))
@@ -151,7 +151,7 @@ module _ {M : Type 1} (𝓤 : URA M) (H : Heap 𝓤) (A : Atoms 𝓤) (W : Given
       owned ! E.the-row (Is E.the-row) (LL.makes E.the-type E′.the-plain 𝓤 H A) state _ state-is $ fjoin ! $
       frame ! $ owned ! O.the-row (Is O.the-row) (LL.makes O.the-type O′.the-plain 𝓤 H A) (begun .outcome) _ out-is $ done !
 
-  walk : (𝓣 : Tables 𝓤 H) → Triple 𝓤 (𝓣 .C #records·has-unknown-kind) (Has 𝓤 H A mem run) → Triple 𝓤 (𝓣 .C #plan·start·begin) (Starts 𝓤 H A mem run) → Triple 𝓤 (𝓣 .C #encoder·turns·start-records) (Loop 𝓤 H A mem run)
+  walk : (𝓣 : Tables 𝓤 H) → Triple 𝓤 (𝓣 .C #records·has-bad-record) (Has 𝓤 H A mem run) → Triple 𝓤 (𝓣 .C #plan·start·begin) (Starts 𝓤 H A mem run) → Triple 𝓤 (𝓣 .C #encoder·turns·start-records) (Loop 𝓤 H A mem run)
       → ent 𝓤 (onEntry 𝓤 H A main.signature (κr, (κt, (κm, tt))) (qr, (qt, (qm, tt))) (state, (settings, (xr γr ys, (xt γt ts, (xm γm ms, tt))))) at) (WpFn 𝓤 H (𝓣 .C) (𝓣 .Λ) code.function (LL.val E.the-type E′.the-laws state ∷ LL.val Se.the-type Se′.the-laws settings ∷ vr ∷ vt ∷ vm ∷ []) Post)
   walk 𝓣 ka kb kc =
       qed W ((‵ (flft κr qr) ⊛ ‵ (flft κt qt) ⊛ ‵ (flft κm qm) ⊛ ‵ ftrue) ∷ ‵ (owns (E.the-row ∷ Se.the-row ∷ MutSlice (named 0) κr T.the-row ∷ ShrSlice (named 1) κt u64 ∷ MutSlice (named 2) κm u8 ∷ []) (state, (settings, (xr γr ys, (xt γt ts, (xm γm ms, tt))))) at) ∷ []) ∵
@@ -168,9 +168,9 @@ module _ {M : Type 1} (𝓤 : URA M) (H : Heap 𝓤) (A : Atoms 𝓤) (W : Given
       use1 W (raw (Has 𝓤 H A mem run .pre (to-has ν δ))) (id⊢ 𝓤 _) $
       calls-at ! (fmOf 𝓤 H (W .laws) 𝓣) (Has 𝓤 H A mem run) ka (to-has ν δ) (and-then ! (load ! (from ! (stop !)) (look ! 16 refl)) (no-more !)) (λ u.
       use1 W (later (some (λ (t : Bool). ((‵ (flft (ν ∷ []) fullShare) ⊛ ‵ ftrue) ⊛ ‵ (bool .own t (u ∷ []))) ⊛ raw (ensured 𝓤 H A has.ended (has.clauses 𝓤 H A mem run) (ν ∷ [], tt) (xr δ ys, tt) tt t)))) (id⊢ 𝓤 _) $ await ! tt $ pick ! (λ t.
-      split ! $ move ! (1 ∷ []) $ use1 W (raw (fact 𝓤 (t ≡ unknown))) (exE 𝓤 _ (λ ws. snd∗ 𝓤 (sem 𝓤 H A (lasts has.ended (ν ∷ [], tt) (xr δ ys, tt) ws)) (fact 𝓤 (t ≡ unknown)))) $
-      heard ! (t ≡ unknown) (λ e₁. split ! $ rewrite ! 1 (λ (z : Bool). ‵ (bool .own z (u ∷ []))) e₁ refl $ move ! (1 ∷ []) $ peeks ! bool (Is bool) (shows 𝓤 H A bool) unknown (u ∷ []) (λ is₁.
-      land ! (from ! (stop !)) (init ! 27 refl (bool-lawful 𝓤 H A W .typed unknown _ is₁ .0)) $ rewrite ! 27 (λ (z : Val). ‵ (fat fullShare tyBool l₆ 0 z)) (ap only (bool-tells unknown _ is₁)) refl $
+      split ! $ move ! (1 ∷ []) $ use1 W (raw (fact 𝓤 (t ≡ bad))) (exE 𝓤 _ (λ ws. snd∗ 𝓤 (sem 𝓤 H A (lasts has.ended (ν ∷ [], tt) (xr δ ys, tt) ws)) (fact 𝓤 (t ≡ bad)))) $
+      heard ! (t ≡ bad) (λ e₁. split ! $ rewrite ! 1 (λ (z : Bool). ‵ (bool .own z (u ∷ []))) e₁ refl $ move ! (1 ∷ []) $ peeks ! bool (Is bool) (shows 𝓤 H A bool) bad (u ∷ []) (λ is₁.
+      land ! (from ! (stop !)) (init ! 27 refl (bool-lawful 𝓤 H A W .typed bad _ is₁ .0)) $ rewrite ! 27 (λ (z : Val). ‵ (fat fullShare tyBool l₆ 0 z)) (ap only (bool-tells bad _ is₁)) refl $
       drop ! $ split ! $ move ! (1 ∷ []) $ drop ! $ lft-end ! tt $
       use2 W (later (‵ (MutSlice (named 0) κr T.the-row .own (xr γr ys) (vr ∷ [])) ⊛ ‵ (flft κr qr))) (shared-back T.the-row κr (ν ∷ []) qr γr br or ys 𝓤 H A W (named 0) (named 0) roomr) $ await ! tt $
       split ! $ assigns ! (of-opd ! (load ! (from ! (fld ! refl (stop !))) (look-in ! 32 (sub ! 1 refl (whole !))))) (from ! (stop !)) (init ! 24 refl (tt, record { fits = roomr .0 })) $
@@ -181,15 +181,15 @@ module _ {M : Type 1} (𝓤 : URA M) (H : Heap 𝓤) (A : Atoms 𝓤) (W : Given
       lft-new ! tt (λ μ. move ! (43 ∷ 44 ∷ []) $
       use2 W (later (some (λ (ε : GName). ‵ (MutSlice (named 0) (μ ∷ []) u8 .own (xm ε ms) (sliceVal (bm, om) (length ms) ∷ [])) ⊛ ‵ (LentAgain u8 κm (μ ∷ []) qm γm bm om ε ms)))) (lends-again u8 κm (μ ∷ []) qm γm bm om 𝓤 H A W (named 2) (named 0) ms) $ await ! tt $ pick ! (λ ε.
       split ! $ nothing ! $ move ! (3 ∷ 0 ∷ []) $ join ! $ nothing ! $ move ! (2 ∷ 0 ∷ []) $ fjoin ! $ owned ! usize (Is usize) (uint-makes 𝓤 H A W w64) (length ts) _ (refl, roomt .0) $ fjoin ! $
-      owned ! usize (Is usize) (uint-makes 𝓤 H A W w64) (length ys) _ (refl, roomr .0) $ fjoin ! $ owned ! bool (Is bool) (bool-makes 𝓤 H A W) unknown _ refl $ fjoin ! $
+      owned ! usize (Is usize) (uint-makes 𝓤 H A W w64) (length ys) _ (refl, roomr .0) $ fjoin ! $ owned ! bool (Is bool) (bool-makes 𝓤 H A W) bad _ refl $ fjoin ! $
       owned ! Se.the-row (Is Se.the-row) (LL.makes Se.the-type Se′.the-plain 𝓤 H A) settings _ settings-is $ fjoin ! $
       owned ! E.the-row (Is E.the-row) (LL.makes E.the-type E′.the-plain 𝓤 H A) state _ state-is $ fjoin ! $ move ! (1 ∷ 0 ∷ []) $ join ! $ nothing ! $ move ! (1 ∷ 0 ∷ []) $ join ! $
       use1 W (raw (Starts 𝓤 H A mem run .pre (to-begin μ ε))) (id⊢ 𝓤 _) $
       calls-at ! (fmOf 𝓤 H (W .laws) 𝓣) (Starts 𝓤 H A mem run) kb (to-begin μ ε) (and-then ! (load ! (from ! (stop !)) (look ! 38 refl)) (and-then ! (load ! (from ! (stop !)) (look ! 36 refl)) (and-then ! (load ! (from ! (stop !)) (look ! 28 refl)) (and-then ! (load ! (from ! (stop !)) (look ! 26 refl)) (and-then ! (load ! (from ! (stop !)) (look ! 24 refl)) (and-then ! (load ! (from ! (stop !)) (look ! 14 refl)) (no-more !))))))) (λ v.
       use1 W (later (some (λ (p : Begun). ((‵ (flft (μ ∷ []) fullShare) ⊛ ‵ ftrue) ⊛ ‵ (Bg.the-row .own p (v ∷ []))) ⊛ raw (ensured 𝓤 H A starts.ended (starts.clauses 𝓤 H A mem run) (μ ∷ [], tt) (given-begin ε) tt p)))) (id⊢ 𝓤 _) $ await ! tt $ pick ! (λ p.
       split ! $ move ! (1 ∷ []) $
-      use1 W (some (λ (zs : Unit {0} × (Unit {0} × (Unit {0} × (Unit {0} × (Unit {0} × (List ℕ × Unit {0})))))). ‵ (lasts starts.ended (μ ∷ [], tt) (given-begin ε) zs) ⊛ raw (fact 𝓤 ((p ≡ begun) × (zs .1 .1 .1 .1 .1 .0 ≡ beginIn settings unknown (length ys) (length ts) ms))))) (id⊢ 𝓤 _) $ pick ! (λ zs.
-      split ! $ move ! (1 ∷ []) $ heard ! ((p ≡ begun) × (zs .1 .1 .1 .1 .1 .0 ≡ beginIn settings unknown (length ys) (length ts) ms)) (λ e₂. fsplit ! $ drop ! $ fsplit ! $ drop ! $ fsplit ! $
+      use1 W (some (λ (zs : Unit {0} × (Unit {0} × (Unit {0} × (Unit {0} × (Unit {0} × (List ℕ × Unit {0})))))). ‵ (lasts starts.ended (μ ∷ [], tt) (given-begin ε) zs) ⊛ raw (fact 𝓤 ((p ≡ begun) × (zs .1 .1 .1 .1 .1 .0 ≡ beginIn settings bad (length ys) (length ts) ms))))) (id⊢ 𝓤 _) $ pick ! (λ zs.
+      split ! $ move ! (1 ∷ []) $ heard ! ((p ≡ begun) × (zs .1 .1 .1 .1 .1 .0 ≡ beginIn settings bad (length ys) (length ts) ms)) (λ e₂. fsplit ! $ drop ! $ fsplit ! $ drop ! $ fsplit ! $
       drop ! $ fsplit ! $ drop ! $ fsplit ! $ drop ! $ fsplit ! $ fsplit ! $ move ! (1 ∷ []) $ feqL ! (λ l₁′. move ! (1 ∷ []) $ drop ! $ move ! (1 ∷ []) $ split ! $
       rewrite ! 1 (λ (z : Begun). ‵ (Bg.the-row .own z (v ∷ []))) (e₂ .0) refl $ move ! (1 ∷ []) $ peeks ! Bg.the-row (Is Bg.the-row) (shows 𝓤 H A Bg.the-row) begun (v ∷ []) (λ is₂.
       land ! (from ! (stop !)) (init ! 24 refl (LL.lawful Bg.the-type Bg′.the-laws 𝓤 H A W .typed begun _ is₂ .0)) $
@@ -204,7 +204,7 @@ module _ {M : Type 1} (𝓤 : URA M) (H : Heap 𝓤) (A : Atoms 𝓤) (W : Given
       assigns ! (agg ! (and-then ! (load ! (from ! (stop !)) (look ! 6 refl)) (and-then ! (load ! (from ! (fld ! refl (stop !))) (look-in ! 30 (sub ! 1 refl (whole !)))) (no-more !)))) (from ! (stop !)) (init ! 4 refl (tt, (tt, (record { fits = roomm .0 }, tt)))) $
       nothing ! $ move ! (2 ∷ 0 ∷ []) $ join ! $ move ! (3 ∷ 0 ∷ []) $ join ! $ nothing ! $ move ! (2 ∷ 0 ∷ []) $ fjoin ! $
       owned ! usize (Is usize) (uint-makes 𝓤 H A W w64) (begun .turns) _ (LL.owed Bg.the-type Bg′.the-laws begun _ is₂ .1 .0) $ fjoin ! $ move ! (2 ∷ 0 ∷ []) $ fjoin ! $ move ! (1 ∷ 0 ∷ []) $ join ! $
-      use0 W (raw (fact 𝓤 (KindsFit (begun .turns) ys (zs .1 .1 .1 .1 .1 .0)))) (factI 𝓤 (KindsFit (begun .turns) ys (zs .1 .1 .1 .1 .1 .0)) (emp 𝓤) (subst (KindsFit (begun .turns) ys) (sym (e₂ .1)) (begin-fits state settings unknown (length ys) (length ts) ms ys refl))) $
+      use0 W (raw (fact 𝓤 (KindsFit (begun .turns) ys (zs .1 .1 .1 .1 .1 .0)))) (factI 𝓤 (KindsFit (begun .turns) ys (zs .1 .1 .1 .1 .1 .0)) (emp 𝓤) (subst (KindsFit (begun .turns) ys) (sym (e₂ .1)) (begin-fits state settings bad (length ys) (length ts) ms ys refl))) $
       move ! (1 ∷ 0 ∷ []) $ join ! $ use1 W (raw (Loop 𝓤 H A mem run .pre (to-loop (zs .1 .1 .1 .1 .1 .0)))) (id⊢ 𝓤 _) $
       calls-at ! (fmOf 𝓤 H (W .laws) 𝓣) (Loop 𝓤 H A mem run) kc (to-loop (zs .1 .1 .1 .1 .1 .0)) (and-then ! (load ! (from ! (stop !)) (look ! 5 refl)) (and-then ! (load ! (from ! (fld ! refl (stop !))) (look-in ! 19 (sub ! 1 refl (whole !)))) (and-then ! (load ! (from ! (stop !)) (look ! 1 refl)) (no-more !)))) (λ w.
       use1 W (later (some (λ (x : Unit {0}). ((‵ (flft κr qr) ⊛ ‵ (flft κm qm) ⊛ ‵ ftrue) ⊛ ‵ (unit .own x (w ∷ []))) ⊛ raw (ensured 𝓤 H A loop.ended (loop.clauses 𝓤 H A mem run) (κr, (κm, tt)) (given-loop (zs .1 .1 .1 .1 .1 .0)) tt x)))) (id⊢ 𝓤 _) $ await ! tt $ pick ! (λ x.
@@ -224,7 +224,7 @@ module _ {M : Type 1} (𝓤 : URA M) (H : Heap 𝓤) (A : Atoms 𝓤) (W : Given
       keep ! (1 ∷ 5 ∷ 0 ∷ 3 ∷ 4 ∷ 2 ∷ []) $
       by ! (exits (cs .0) (cs .1 .1 .0) (started-out settings state ys (cs .0) ts ms (zs .1 .1 .1 .1 .1 .0) (cs .1 .1 .0) (e₂ .1) (e₃ .0) (e₃ .1) ∙ start-carried settings (memory state ys ts [] ms)) lr (lm ∙ l₁′) (LL.owed Bg.the-type Bg′.the-laws begun _ is₂ .0))))))))))))))))))))))))))))))))))))))))))
 
-module _ {M : Type 1} (𝓤 : URA M) (H : Heap 𝓤) (A : Atoms 𝓤) (W : Given 𝓤 H A) (mem : Memory → SProp 𝓤) (run : Routine → Fun 𝓤) (𝓣 : Tables 𝓤 H) (ka : Triple 𝓤 (𝓣 .C #records·has-unknown-kind) (Has 𝓤 H A mem run)) (kb : Triple 𝓤 (𝓣 .C #plan·start·begin) (Starts 𝓤 H A mem run)) (kc : Triple 𝓤 (𝓣 .C #encoder·turns·start-records) (Loop 𝓤 H A mem run)) where
+module _ {M : Type 1} (𝓤 : URA M) (H : Heap 𝓤) (A : Atoms 𝓤) (W : Given 𝓤 H A) (mem : Memory → SProp 𝓤) (run : Routine → Fun 𝓤) (𝓣 : Tables 𝓤 H) (ka : Triple 𝓤 (𝓣 .C #records·has-bad-record) (Has 𝓤 H A mem run)) (kb : Triple 𝓤 (𝓣 .C #plan·start·begin) (Starts 𝓤 H A mem run)) (kc : Triple 𝓤 (𝓣 .C #encoder·turns·start-records) (Loop 𝓤 H A mem run)) where
   walks : Walks 𝓤 H A main.ended stayed (WpFn 𝓤 H (𝓣 .C) (𝓣 .Λ) code.function) (main.clauses 𝓤 H A mem run)
   walks = walked 𝓤 H A main.ended stayed (main.clauses 𝓤 H A mem run) (WpFn 𝓤 H (𝓣 .C) (𝓣 .Λ) code.function)
       (λ κs. (LL.vals E.the-type E′.the-laws, (LL.vals Se.the-type Se′.the-laws, (slice-vals, (slice-vals, (slice-vals, tt))))))
@@ -243,6 +243,6 @@ start-spec 𝓤 H 𝓜 𝓖 𝓡 =
     entered 𝓤 H (tripleOf 𝓤 H (𝓖 .A) main.signature (main.spec 𝓤 H (𝓖 .A) (𝓜 .mem) (𝓡 .run)))
     (tables 𝓤 H 𝓜 𝓡 code.env .C) (tables 𝓤 H 𝓜 𝓡 code.env .Λ) #encoder·start·start code.function (code.unfolded 𝓤 H 𝓜 𝓡)
     (meets 𝓤 H (𝓖 .A) (givenOf 𝓤 H 𝓜 𝓖) (𝓜 .mem) (𝓡 .run) (tablesOf 𝓤 H 𝓜 (tables 𝓤 H 𝓜 𝓡 code.env))
-    (cited 𝓤 H (Has 𝓤 H (𝓖 .A) (𝓜 .mem) (𝓡 .run)) 𝓜 𝓡 code.env #records·has-unknown-kind has-def.routine code.calls-records·has-unknown-kind (has-thm.met 𝓤 H 𝓜 𝓖 𝓡))
+    (cited 𝓤 H (Has 𝓤 H (𝓖 .A) (𝓜 .mem) (𝓡 .run)) 𝓜 𝓡 code.env #records·has-bad-record has-def.routine code.calls-records·has-bad-record (has-thm.met 𝓤 H 𝓜 𝓖 𝓡))
     (cited 𝓤 H (Starts 𝓤 H (𝓖 .A) (𝓜 .mem) (𝓡 .run)) 𝓜 𝓡 code.env #plan·start·begin starts-def.routine code.calls-plan·start·begin (starts-thm.met 𝓤 H 𝓜 𝓖 𝓡))
     (cited 𝓤 H (Loop 𝓤 H (𝓖 .A) (𝓜 .mem) (𝓡 .run)) 𝓜 𝓡 code.env #encoder·turns·start-records loop-def.routine code.calls-encoder·turns·start-records (loop-thm.met 𝓤 H 𝓜 𝓖 𝓡)))

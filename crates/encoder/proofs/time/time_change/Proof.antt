@@ -126,7 +126,7 @@ module _ {M : Type 1} (𝓤 : URA M) (H : Heap 𝓤) (A : Atoms 𝓤) (W : Given
   Post = walkOf 𝓤 H A main.ended stayed (main.clauses 𝓤 H A mem run) .post (((κr, (κt, (κw, (κm, tt)))), (qr, (qt, (qw, (qm, tt)))), bounds, (state, (xr γr ys, (xt γt ts, (xw γw ws, (xm γm ms, (stamp, tt)))))), at), tt)
 
   abbrev plan : Plan
-  plan = planTime state (length ys) ts ws (length ms) (stamp .time)
+  plan = planTime state (length ys) ts ws (length ms) (stamp .sender) (stamp .time)
 
   abbrev given-prep : GName → GName → Encoder × (ℕ × (RefT (List ℕ) × (RefT (List ℕ) × (RefT (List ℕ) × (Stamp × Unit {0})))))
   given-prep δ ε = (state, (length ys, (xt δ ts, (xw γw ws, (xm ε ms, (stamp, tt))))))
@@ -146,7 +146,7 @@ module _ {M : Type 1} (𝓤 : URA M) (H : Heap 𝓤) (A : Atoms 𝓤) (W : Given
   abbrev to-end : List ℕ → End 𝓤 H A mem run .Ghost
   to-end l = (((κt, (κw, (κm, tt))), (qt, (qw, (qm, tt))), tt, given-end l, (LL.val P.the-type P′.the-laws plan ∷ [], (vt ∷ [], (vw ∷ [], (vm ∷ [], tt))))), tt)
 
-  exits : (zs : List SignalRecord) (cs is : List ℕ) → after (replyOf (plan .outcome .answer)) (memory (plan .outcome .state) zs cs ws is) ≡ timeOf (memory state ys ts ws ms) (stamp .time)
+  exits : (zs : List SignalRecord) (cs is : List ℕ) → after (replyOf (plan .outcome .answer)) (memory (plan .outcome .state) zs cs ws is) ≡ timeOf (memory state ys ts ws ms) (stamp .sender) (stamp .time)
       → length zs ≡ length ys → length cs ≡ length ts → length is ≡ length ms → Is O.the-row (plan .outcome) (LL.val O.the-type O′.the-laws (plan .outcome) ∷ []) → ent 𝓤 (⋆ 𝓤 H A (‵ (flft κr qr) ∷ ‵ (flft κt qt) ∷ ‵ (flft κw qw) ∷ ‵ (flft κm qm) ∷ ‵ (finally T.the-row γr zs) ∷ ‵ (finally u64 γt cs) ∷ ‵ (ShrSlice (named 2) κw u8 .own (xw γw ws) (vw ∷ [])) ∷ ‵ (finally u8 γm is) ∷ [])) (Post (LL.val O.the-type O′.the-laws (plan .outcome)))
   exits zs cs is e lenr lent lenm out-is =
       qed W (‵ (flft κr qr) ∷ ‵ (flft κt qt) ∷ ‵ (flft κw qw) ∷ ‵ (flft κm qm) ∷ ‵ (finally T.the-row γr zs) ∷ ‵ (finally u64 γt cs) ∷ ‵ (ShrSlice (named 2) κw u8 .own (xw γw ws) (vw ∷ [])) ∷ ‵ (finally u8 γm is) ∷ []) ∵
@@ -207,7 +207,7 @@ module _ {M : Type 1} (𝓤 : URA M) (H : Heap 𝓤) (A : Atoms 𝓤) (W : Given
       owned ! usize (Is usize) (uint-makes 𝓤 H A W w64) (plan .start) _ (LL.owed P.the-type P′.the-laws plan _ is₁ .1 .1 .1 .1 .1 .1 .0) $ fjoin ! $
       owned ! usize (Is usize) (uint-makes 𝓤 H A W w64) (plan .used) _ (LL.owed P.the-type P′.the-laws plan _ is₁ .1 .1 .1 .1 .1 .0) $ fjoin ! $
       owned ! usize (Is usize) (uint-makes 𝓤 H A W w64) (plan .turns) _ (LL.owed P.the-type P′.the-laws plan _ is₁ .1 .1 .1 .1 .0) $ fjoin ! $ move ! (51 ∷ 0 ∷ []) $ fjoin ! $ move ! (1 ∷ 0 ∷ []) $ join ! $
-      use0 W (raw (fact 𝓤 (TurnsFit (plan .used) (plan .start) (plan .turns) ys (zs .1 .1 .1 .1 .0)))) (factI 𝓤 (TurnsFit (plan .used) (plan .start) (plan .turns) ys (zs .1 .1 .1 .1 .0)) (emp 𝓤) (fits-in (plan .used) (plan .start) (plan .turns) ys (e₁ .1 ∙ ap (λ (p : Plan). openedBy p ts ws ms) (e₁ .0)) (time-carries state ys ts ws ms (length ys) refl (stamp .time) .loop))) $
+      use0 W (raw (fact 𝓤 (TurnsFit (plan .used) (plan .start) (plan .turns) ys (zs .1 .1 .1 .1 .0)))) (factI 𝓤 (TurnsFit (plan .used) (plan .start) (plan .turns) ys (zs .1 .1 .1 .1 .0)) (emp 𝓤) (fits-in (plan .used) (plan .start) (plan .turns) ys (e₁ .1 ∙ ap (λ (p : Plan). openedBy p ts ws ms) (e₁ .0)) (time-carries state ys ts ws ms (length ys) refl (stamp .sender) (stamp .time) .loop))) $
       move ! (1 ∷ 0 ∷ []) $ join ! $ use1 W (raw (Cuts 𝓤 H A mem run .pre (to-cuts μ′ ε′ (zs .1 .1 .1 .1 .0)))) (id⊢ 𝓤 _) $
       calls-at ! (fmOf 𝓤 H (W .laws) 𝓣) (Cuts 𝓤 H A mem run) kb (to-cuts μ′ ε′ (zs .1 .1 .1 .1 .0)) (and-then ! (load ! (from ! (stop !)) (look ! 18 refl)) (and-then ! (load ! (from ! (fld ! refl (stop !))) (look-in ! 32 (sub ! 4 refl (whole !)))) (and-then ! (load ! (from ! (fld ! refl (stop !))) (look-in ! 32 (sub ! 5 refl (whole !)))) (and-then ! (load ! (from ! (fld ! refl (stop !))) (look-in ! 32 (sub ! 6 refl (whole !)))) (and-then ! (load ! (from ! (stop !)) (look ! 14 refl)) (no-more !)))))) (λ v.
       use1 W (later (some (λ (x : Unit {0}). ((‵ (flft κr qr) ⊛ ‵ (flft (μ′ ∷ []) fullShare) ⊛ ‵ ftrue) ⊛ ‵ (unit .own x (v ∷ []))) ⊛ raw (ensured 𝓤 H A cuts.ended (cuts.clauses 𝓤 H A mem run) (κr, (μ′ ∷ [], tt)) (given-cuts ε′ (zs .1 .1 .1 .1 .0)) tt x)))) (id⊢ 𝓤 _) $ await ! tt $ pick ! (λ x.
@@ -229,7 +229,7 @@ module _ {M : Type 1} (𝓤 : URA M) (H : Heap 𝓤) (A : Atoms 𝓤) (W : Given
       use1 W (‵ (ShrSlice (named 2) κw u8 .own (xw γw ws) (vw ∷ [])) ⊛ ‵ (ShrSlice (named 2) κw u8 .own (xw γw ws) (vw ∷ []))) (shr-slice-copy 𝓤 H A W (named 2) κw u8 .twice (xw γw ws) (vw ∷ [])) $
       split ! $ nothing ! $ move ! (4 ∷ 0 ∷ []) $ join ! $ move ! (8 ∷ 0 ∷ []) $ join ! $ move ! (7 ∷ 0 ∷ []) $ join ! $ nothing ! $ move ! (4 ∷ 0 ∷ []) $ fjoin ! $ move ! (2 ∷ 0 ∷ []) $ fjoin ! $
       move ! (5 ∷ 0 ∷ []) $ fjoin ! $ owned ! P.the-row (Is P.the-row) (LL.makes P.the-type P′.the-plain 𝓤 H A) plan _ (plan-is is₁) $ fjoin ! $ move ! (1 ∷ 0 ∷ []) $ join ! $
-      use0 W (raw (fact 𝓤 (Completes plan ts ws (cs .1 .1 .1 .1 .0)))) (factI 𝓤 (Completes plan ts ws (cs .1 .1 .1 .1 .0)) (emp 𝓤) (ends-in plan ts ws ys (e₁ .1 ∙ ap (λ (p : Plan). openedBy p ts ws ms) (e₁ .0)) (e₂ .1) (time-carries state ys ts ws ms (length ys) refl (stamp .time) .end))) $
+      use0 W (raw (fact 𝓤 (Completes plan ts ws (cs .1 .1 .1 .1 .0)))) (factI 𝓤 (Completes plan ts ws (cs .1 .1 .1 .1 .0)) (emp 𝓤) (ends-in plan ts ws ys (e₁ .1 ∙ ap (λ (p : Plan). openedBy p ts ws ms) (e₁ .0)) (e₂ .1) (time-carries state ys ts ws ms (length ys) refl (stamp .sender) (stamp .time) .end))) $
       move ! (1 ∷ 0 ∷ []) $ join ! $ use1 W (raw (End 𝓤 H A mem run .pre (to-end (cs .1 .1 .1 .1 .0)))) (id⊢ 𝓤 _) $
       calls-at ! (fmOf 𝓤 H (W .laws) 𝓣) (End 𝓤 H A mem run) kc (to-end (cs .1 .1 .1 .1 .0)) (and-then ! (load ! (from ! (stop !)) (look ! 30 refl)) (and-then ! (load ! (from ! (stop !)) (look ! 8 refl)) (and-then ! (load ! (from ! (stop !)) (look ! 38 refl)) (and-then ! (load ! (from ! (stop !)) (look ! 4 refl)) (no-more !))))) (λ w.
       use1 W (later (some (λ (h : Outcome). ((‵ (flft κt qt) ⊛ ‵ (flft κw qw) ⊛ ‵ (flft κm qm) ⊛ ‵ ftrue) ⊛ ‵ (O.the-row .own h (w ∷ []))) ⊛ raw (ensured 𝓤 H A end.ended (end.clauses 𝓤 H A mem run) (κt, (κw, (κm, tt))) (given-end (cs .1 .1 .1 .1 .0)) tt h)))) (id⊢ 𝓤 _) $ await ! tt $ pick ! (λ h.
@@ -247,7 +247,7 @@ module _ {M : Type 1} (𝓤 : URA M) (H : Heap 𝓤) (A : Atoms 𝓤) (W : Given
       move ! (30 ∷ 31 ∷ []) $ free1 ! $ move ! (28 ∷ 29 ∷ []) $ free1 ! $ move ! (26 ∷ 27 ∷ []) $ free1 ! $ move ! (24 ∷ 25 ∷ []) $ free1 ! $ move ! (22 ∷ 23 ∷ []) $ free1 ! $
       move ! (20 ∷ 21 ∷ []) $ free1 ! $ move ! (18 ∷ 19 ∷ []) $ free1 ! $ move ! (16 ∷ 17 ∷ []) $ free1 ! $ move ! (14 ∷ 15 ∷ []) $ free1 ! $ move ! (12 ∷ 13 ∷ []) $ free1 ! $
       move ! (10 ∷ 11 ∷ []) $ free1 ! $ move ! (8 ∷ 9 ∷ []) $ free1 ! $ free0 ! $ keep ! (6 ∷ 2 ∷ 1 ∷ 0 ∷ 7 ∷ 4 ∷ 5 ∷ 3 ∷ []) $
-      by ! (exits (cs .0) (ds .1 .0) (ds .1 .1 .1 .0) (carried-out plan state ys (cs .0) ts (ds .1 .0) ws ms (zs .1 .1 .1 .1 .0) (cs .1 .1 .1 .1 .0) (ds .1 .1 .1 .0) (e₁ .1 ∙ ap (λ (p : Plan). openedBy p ts ws ms) (e₁ .0)) (e₂ .0) (e₂ .1) (e₃ .1) (e₃ .2) ∙ time-carried state ys ts ws ms (length ys) refl (stamp .time)) lr lt (lm ∙ l₂′ ∙ l₁′) (LL.owed P.the-type P′.the-laws plan _ is₁ .0))))))))))))))))))))))))))))))))))))))))))))))))))
+      by ! (exits (cs .0) (ds .1 .0) (ds .1 .1 .1 .0) (carried-out plan state ys (cs .0) ts (ds .1 .0) ws ms (zs .1 .1 .1 .1 .0) (cs .1 .1 .1 .1 .0) (ds .1 .1 .1 .0) (e₁ .1 ∙ ap (λ (p : Plan). openedBy p ts ws ms) (e₁ .0)) (e₂ .0) (e₂ .1) (e₃ .1) (e₃ .2) ∙ time-carried state ys ts ws ms (length ys) refl (stamp .sender) (stamp .time)) lr lt (lm ∙ l₂′ ∙ l₁′) (LL.owed P.the-type P′.the-laws plan _ is₁ .0))))))))))))))))))))))))))))))))))))))))))))))))))
     where
       plan-is : {u : Val} → Is P.the-row plan (u ∷ []) → Is P.the-row plan (LL.val P.the-type P′.the-laws plan ∷ [])
       plan-is is = subst (Is P.the-row plan) (LL.tells P.the-type P′.the-laws plan _ is) is

@@ -8,8 +8,8 @@ use borrow.Author.Needs.{needs}
 use Rattle.flat.proofs.start.start.Statement.{statement}
 use Rattle.flat.proofs.start.start.Tie as tie
 
-has-unknown-kind-requires : tie.Need-has-unknown-kind-requires
-has-unknown-kind-requires c κs = search needs
+has-bad-record-requires : tie.Need-has-bad-record-requires
+has-bad-record-requires c κs = search needs
 
 begin-requires : tie.Need-begin-requires
 begin-requires c κs = search needs
@@ -32,13 +32,13 @@ returns c =
     let e = c .before .before .before .before .before .before .before .before .before .before .begin .ensures in
     let k = c .before .before .before .before .before .start-records .ensures in
     start-steps (a .state) (a .settings) (recordsOf (a .records .now)) (a .times .now) [] (a .image .now) _ _ _ _ (records-length (a .records .now)) (e .0) (e .1) _ _
-    (c .before .before .before .before .before .before .before .before .before .before .before .before .has-unknown-kind .ensures) (k .0) (k .1)
+    (c .before .before .before .before .before .before .before .before .before .before .before .before .has-bad-record .ensures) (k .0) (k .1)
 
 pub start-spec : {M : Type 1} → statement M
 start-spec =
     tie.close
     (tie.spec
-    has-unknown-kind-requires
+    has-bad-record-requires
     begin-requires
     start-records-requires
     same-length

@@ -16,7 +16,7 @@ cut-records-requires c κs =
     let a = c .before .before .before .before .before .before .before .before .before .before .before .args in
     let e = c .before .before .before .before .prepare-time .ensures in
     loop-fits (recordsOf (a .records .now)) (a .times .now) (a .work .now) (a .image .now) _ _ _ (a .image .now) (e .0) (e .1)
-    (time-carries (a .state) (recordsOf (a .records .now)) (a .times .now) (a .work .now) (a .image .now) _ (records-length (a .records .now)) (a .stamp .time))
+    (time-carries (a .state) (recordsOf (a .records .now)) (a .times .now) (a .work .now) (a .image .now) _ (records-length (a .records .now)) (a .stamp .sender) (a .stamp .time))
 
 complete-requires : tie.Need-complete-requires
 complete-requires c κs =
@@ -24,7 +24,7 @@ complete-requires c κs =
     let e = c .before .before .before .before .before .before .before .before .before .before .before .prepare-time .ensures in
     end-fits (recordsOf (a .records .now)) (a .times .now) (a .work .now) (a .image .now) _ _ _ _ (e .0) (e .1)
     (c .before .before .before .before .before .before .cut-records .ensures .1)
-    (time-carries (a .state) (recordsOf (a .records .now)) (a .times .now) (a .work .now) (a .image .now) _ (records-length (a .records .now)) (a .stamp .time))
+    (time-carries (a .state) (recordsOf (a .records .now)) (a .times .now) (a .work .now) (a .image .now) _ (records-length (a .records .now)) (a .stamp .sender) (a .stamp .time))
 
 same-length : tie.Need-same-length
 same-length c = search needs
@@ -43,7 +43,7 @@ returns c =
     let k = c .before .before .before .before .before .before .before .before .before .before .before .cut-records .ensures in
     let d = c .before .before .before .before .complete .ensures in
     steps-carried (recordsOf (a .records .now)) (a .times .now) (a .work .now) (a .image .now) _ _ _ _ (e .0) (e .1) (k .1) (a .state) _ _ _ _ (k .0) (d .0) (d .1) (d .2)
-    ∙ time-carried (a .state) (recordsOf (a .records .now)) (a .times .now) (a .work .now) (a .image .now) _ (records-length (a .records .now)) (a .stamp .time)
+    ∙ time-carried (a .state) (recordsOf (a .records .now)) (a .times .now) (a .work .now) (a .image .now) _ (records-length (a .records .now)) (a .stamp .sender) (a .stamp .time)
 
 pub time-change-spec : {M : Type 1} → statement M
 time-change-spec =

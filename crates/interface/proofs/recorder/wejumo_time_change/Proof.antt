@@ -30,7 +30,7 @@ same-length-3 c = search needs
 returns : tie.Need-returns
 returns c =
     let a = c .before .before .before .before .before .before .before .before .before .before .before .before .before .before .before .before .args in
-    told-made (a .state) (λ (s : Encoder). timeOf (memory s (recordsOf (a .records .now)) (a .times .now) (a .work .now) (a .image .now)) (a .time)) _ _ _ _ _ _ _ _
+    told-made (a .state) (λ (s : Encoder). timeOf (memory s (recordsOf (a .records .now)) (a .times .now) (a .work .now) (a .image .now)) (a .sender) (a .time)) _ _ _ _ _ _ _ _
     (c .before .before .before .before .before .before .before .before .before .before .before .state-from .ensures)
     (c .before .before .before .before .before .before .before .time-change .ensures) (c .outcome-numbers .ensures)
 

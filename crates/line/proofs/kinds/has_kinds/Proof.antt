@@ -8,15 +8,15 @@ use native.Mathlib.Numerals.{add-one}
 use borrow.Author.Tests.{not-true, not-false}
 use lib.ListN.{drop}
 use Rattle.lists.specs.Choice.{isSome}
-use Rattle.line.specs.Words.{wordsOf}
-use Rattle.line.specs.Line.{kindOf, kindsOf, kindsIn}
-use Rattle.line.proofs.KindLaws.{kinds-many, kinds-few, kinds-end, kinds-other, kinds-more}
+use Rattle.line.specs.Words.{wordsOf, eachOf}
+use Rattle.line.specs.Line.{kindOf, kindsIn}
+use Rattle.line.proofs.EachLaws.{each-many, each-few, each-end, each-other, each-more}
 use borrow.Author.Needs.{needs}
 use Rattle.line.proofs.kinds.has_kinds.Statement.{statement}
 use Rattle.line.proofs.kinds.has_kinds.Tie as tie
 
 abbrev Inv-loop : tie.InvT-loop
-Inv-loop line n k₀ k = (3 ≤ k) × (isSome (kindsOf (drop k (wordsOf line))) ≡ isSome (kindsIn line))
+Inv-loop line n k₀ k = (3 ≤ k) × (isSome (eachOf kindOf (drop k (wordsOf line))) ≡ isSome (kindsIn line))
 
 abbrev μ-loop : tie.MeasureT-loop
 μ-loop line n k₀ k = n - k
@@ -25,10 +25,10 @@ count-words-requires : tie.Need-count-words-requires Inv-loop μ-loop
 count-words-requires c κs = search needs
 
 returns : tie.Need-returns Inv-loop μ-loop
-returns c = sym (ap isSome (kinds-many (c .before .before .before .args .line .now) (omega arith)))
+returns c = sym (ap isSome (each-many kindOf 3 (c .before .before .before .args .line .now) (omega arith)))
 
 loop-holds : tie.Need-loop-holds Inv-loop μ-loop
-loop-holds c = (omega arith, sym (ap isSome (kinds-few (c .before .before .before .args .line .now) (omega arith))))
+loop-holds c = (omega arith, sym (ap isSome (each-few kindOf 3 (c .before .before .before .args .line .now) (omega arith))))
 
 word-requires : tie.Need-word-requires Inv-loop μ-loop
 word-requires c κs = search needs
@@ -41,7 +41,7 @@ returns-2 c =
     let l = c .before .before .before .before .loop in
     let s = c .before .before .before .before .before .before .before .before .args .line .now in
     let e = sym (c .before .is-kind .ensures ∙ ap (λ (w : List ℕ). isSome (kindOf w)) (c .before .before .word .ensures)) ∙ not-true _ (c .if2 .taken) in
-    sym (sym (l .inv .1) ∙ kinds-other s (l .k) (omega arith) e)
+    sym (sym (l .inv .1) ∙ each-other kindOf (l .k) s (omega arith) e)
 
 add-k : tie.Need-add-k Inv-loop μ-loop
 add-k c = search needs
@@ -54,12 +54,12 @@ loop-again c =
     let l = c .before .before .before .before .loop in
     let s = c .before .before .before .before .before .before .before .before .args .line .now in
     let e = sym (c .before .is-kind .ensures ∙ ap (λ (w : List ℕ). isSome (kindOf w)) (c .before .before .word .ensures)) ∙ not-false _ (c .if2 .left) in
-    (omega arith, rw (add-one (l .k)) (sym (kinds-more s (l .k) (omega arith) e) ∙ l .inv .1))
+    (omega arith, rw (add-one (l .k)) (sym (each-more kindOf (l .k) s (omega arith) e) ∙ l .inv .1))
 
 returns-3 : tie.Need-returns-3 Inv-loop μ-loop
 returns-3 c =
     let l = c .before .loop in
-    sym (ap isSome (kinds-end (c .before .before .before .before .before .args .line .now) (l .k) (omega arith))) ∙ l .inv .1
+    sym (ap isSome (each-end kindOf (l .k) (c .before .before .before .before .before .args .line .now) (omega arith))) ∙ l .inv .1
 
 pub has-kinds-spec : {M : Type 1} → statement M
 has-kinds-spec =

@@ -14,7 +14,7 @@ enum-known-kind : tie.Need-enum-known-kind
 enum-known-kind c = search needs
 
 put-record-requires : tie.Need-put-record-requires
-put-record-requires c κs = kind-stored _ _ (sym (ap kindInside (c .before .before .kind .given .1)) ∙ c .before .before .before .before .kind-of .ensures)
+put-record-requires c κs = kind-stored _ (search needs) _ _ (sym (ap kindInside (c .before .before .kind .given .1)) ∙ c .before .before .before .before .kind-of .ensures)
 
 enum-told : tie.Need-enum-told
 enum-told c = search needs

@@ -2,6 +2,7 @@
 -- Assumes nothing.
 use Prim.Native.Nat.{_-_, _≤_}
 use mathlib.Core.Path.{_≡_, sym, ap, _∙_}
+use mathlib.Core.Bool.{false}
 use native.Mathlib.Omega.{arith}
 use lib.ListN.{length}
 use Rattle.recording.specs.Memory.{first}
@@ -18,7 +19,7 @@ use Rattle.plan.proofs.finish.plan_finish.Statement.{statement}
 use Rattle.plan.proofs.finish.plan_finish.Tie as tie
 
 -- no test of the state refuses the finish
-none : (c : tie.Else1) → let a = c .before .before .before .args in first (stateTests (a .state) (a .lent .records) (a .lent .times) (length (a .work .now)) (a .lent .image)) ≡ 0
+none : (c : tie.Else1) → let a = c .before .before .before .args in first (stateTests (a .state) false (a .lent .records) (a .lent .times) (length (a .work .now)) (a .lent .image)) ≡ 0
 none c = sym (c .before .state-refusal .ensures) ∙ c .if1 .left
 
 state-refusal-requires : tie.Need-state-refusal-requires
@@ -53,7 +54,7 @@ returns-2 c =
     ∙ sym (finish-empty (a .state) (a .lent .records) (a .lent .times) (a .work .now) (a .lent .image) (none (c .before .before .before .before)) (c .before .before .if2 .taken))
 
 cut-size-requires : tie.Need-cut-size-requires
-cut-size-requires c κs = let h = sound _ _ _ _ _ (none (c .before .before)) in (h .worked, h .used, h .short)
+cut-size-requires c κs = let h = sound _ _ _ _ _ _ (none (c .before .before)) in (h .worked, h .used, h .short)
 
 refused-requires-2 : tie.Need-refused-requires-2
 refused-requires-2 c κs = search needs
@@ -75,7 +76,7 @@ returns-3 c =
 cut-state-requires : tie.Need-cut-state-requires
 cut-state-requires c κs =
     let a = c .before .before .before .before .before .before .before .before .args in
-    let h = sound _ _ _ _ _ (none (c .before .before .before .before .before)) in
+    let h = sound _ _ _ _ _ _ (none (c .before .before .before .before .before)) in
     let z = c .before .before .cut-size in
     let room : z .result .size ≤ a .lent .image - a .state .image = rw (z .ensures) (size-room (a .state) (a .work .now) (a .lent .image)) in
     (omega (arith, room, h .used, h .short), omega (arith, h .blocks, h .used, h .short))

@@ -15,7 +15,7 @@ use Rattle.plan.proofs.start.begin.Statement.{statement}
 use Rattle.plan.proofs.start.begin.Tie as tie
 
 -- no test refuses the start
-fine : (c : tie.Else1) → let a = c .before .before .before .args in Startable (a .settings) (a .n) (a .unknown) (a .times) (length (a .image .now))
+fine : (c : tie.Else1) → let a = c .before .before .before .args in Startable (a .settings) (a .n) (a .bad) (a .times) (length (a .image .now))
 fine c = startable _ _ _ _ _ (sym (c .before .start-refusal .ensures) ∙ c .if1 .left)
 
 start-refusal-requires : tie.Need-start-refusal-requires
@@ -28,7 +28,7 @@ returns : tie.Need-returns
 returns c =
     let a = c .before .before .before .before .args in
     let n = c .before .before .start-refusal .ensures in
-    let e = begin-refused (a .state) (a .settings) (a .unknown) (a .n) (a .times) (a .image .now) (λ z. c .before .if1 .taken (n ∙ z)) in
+    let e = begin-refused (a .state) (a .settings) (a .bad) (a .n) (a .times) (a .image .now) (λ z. c .before .if1 .taken (n ∙ z)) in
     (ap (λ (o : Outcome). begun o 0) (c .refused .ensures ∙ ap (λ (k : ℕ). outcome (Refused k) (a .state)) n) ∙ sym (e .0), sym (e .1))
 
 put-numbers-requires : tie.Need-put-numbers-requires
@@ -44,7 +44,7 @@ returns-2 : tie.Need-returns-2
 returns-2 c =
     let a = c .before .before .before .before .before .before .before .before .args in
     let z = c .before .before .before .before .before in
-    let e = begin-taken (a .state) (a .settings) (a .unknown) (a .n) (a .times) (a .image .now) (sym (z .before .start-refusal .ensures) ∙ z .if1 .left) in
+    let e = begin-taken (a .state) (a .settings) (a .bad) (a .n) (a .times) (a .image .now) (sym (z .before .start-refusal .ensures) ∙ z .if1 .left) in
     (ap (λ (o : Outcome). begun o (a .n)) (c .begun .ensures) ∙ sym (e .0), c .before .before .before .put-numbers .ensures ∙ sym (e .1))
 
 pub begin-spec : {M : Type 1} → statement M

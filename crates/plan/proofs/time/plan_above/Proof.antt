@@ -33,10 +33,10 @@ returns c =
     let a = p .args in
     c .plan-taken .ensures
     ∙ ap (λ (q : Plan). taking q (a .stamp .time)) (c .before .plan-still .ensures ∙ ap (λ (o : Outcome). still o (a .state)) (c .before .before .taken .ensures))
-    ∙ sym (above-taken (a .state) (a .lent .records) (a .work .now) (a .lent .image) (a .stamp .time) (c .before .before .before .if1 .taken))
+    ∙ sym (above-taken (a .state) (a .lent .records) (a .work .now) (a .lent .image) (a .stamp .sender) (a .stamp .time) (c .before .before .before .if1 .taken))
 
 cut-size-requires : tie.Need-cut-size-requires
-cut-size-requires c κs = let h = sound _ _ _ _ _ (c .before .before .before .pre) in (h .worked, h .used, h .short)
+cut-size-requires c κs = let h = sound _ _ _ _ _ _ (c .before .before .before .pre) in (h .worked, h .used, h .short)
 
 refused-requires : tie.Need-refused-requires
 refused-requires c κs = search needs
@@ -51,15 +51,16 @@ returns-2 c =
     let z = c .before .before .before .before .cut-size in
     c .plan-still2 .ensures
     ∙ ap (λ (o : Outcome). still o (a .state)) (c .before .refused .ensures)
-    ∙ sym (above-cut (a .state) (a .lent .records) (a .work .now) (a .lent .image) (a .stamp .time) (sound _ _ _ _ _ (p .pre) .held) (c .before .before .before .before .before .if1 .left)
-    ∙ ap (timeSized (a .state) (a .lent .records) (a .stamp .time)) (sym (z .ensures))
-    ∙ sized-refused (a .state) (z .result) (timeWithCut (a .state) (a .lent .records) (a .stamp .time)) (c .before .before .if2 .taken))
+    ∙ sym (above-cut (a .state) (a .lent .records) (a .work .now) (a .lent .image) (a .stamp .sender) (a .stamp .time) (sound _ _ _ _ _ _ (p .pre) .held)
+    (c .before .before .before .before .before .if1 .left)
+    ∙ ap (timeSized (a .state) (a .lent .records) (a .stamp .sender) (a .stamp .time)) (sym (z .ensures))
+    ∙ sized-refused (a .state) (z .result) (timeWithCut (a .state) (a .lent .records) (a .stamp .sender) (a .stamp .time)) (c .before .before .if2 .taken))
 
 cut-state-requires : tie.Need-cut-state-requires
 cut-state-requires c κs =
     let p = c .before .before .before .before .before .before in
     let a = p .args in
-    let h = sound _ _ _ _ _ (p .pre) in
+    let h = sound _ _ _ _ _ _ (p .pre) in
     let z = c .before .before .cut-size in
     let room : z .result .size ≤ a .lent .image - a .state .image = rw (z .ensures) (size-room (a .state) (a .work .now) (a .lent .image)) in
     (omega (arith, room, h .used, h .short), omega (arith, h .blocks, h .used, h .short))
@@ -78,13 +79,13 @@ returns-3 c =
     let p = c .before .before .before .before .before .before .before .before .before .before in
     let a = p .args in
     let z = c .before .before .before .before .before .before .cut-size in
-    let o = c .before .before .taken2 .ensures ∙ ap (λ (s : Encoder). outcome Taken (timedState s)) (c .before .before .before .cut-state .ensures) in
+    let o = c .before .before .taken2 .ensures ∙ ap (λ (s : Encoder). outcome Taken (timedState s (a .stamp .sender))) (c .before .before .before .cut-state .ensures) in
     c .plan-taken2 .ensures
     ∙ ap (λ (q : Plan). taking q (a .stamp .time)) (c .before .plan-cut .ensures ∙ ap (λ (o : Outcome). cutting o (a .state) (z .result .size) (a .lent .records)) o)
-    ∙ sym (above-cut (a .state) (a .lent .records) (a .work .now) (a .lent .image) (a .stamp .time) (sound _ _ _ _ _ (p .pre) .held)
+    ∙ sym (above-cut (a .state) (a .lent .records) (a .work .now) (a .lent .image) (a .stamp .sender) (a .stamp .time) (sound _ _ _ _ _ _ (p .pre) .held)
     (c .before .before .before .before .before .before .before .if1 .left)
-    ∙ ap (timeSized (a .state) (a .lent .records) (a .stamp .time)) (sym (z .ensures))
-    ∙ sized-cut (a .state) (z .result) (timeWithCut (a .state) (a .lent .records) (a .stamp .time)) (c .before .before .before .before .if2 .left))
+    ∙ ap (timeSized (a .state) (a .lent .records) (a .stamp .sender) (a .stamp .time)) (sym (z .ensures))
+    ∙ sized-cut (a .state) (z .result) (timeWithCut (a .state) (a .lent .records) (a .stamp .sender) (a .stamp .time)) (c .before .before .before .before .if2 .left))
 
 pub plan-above-spec : {M : Type 1} → statement M
 plan-above-spec =

@@ -12,7 +12,7 @@ plan-time-requires c κs = refl
 open-planned-requires : tie.Need-open-planned-requires
 open-planned-requires c κs =
     let a = c .before .before .before .before .before .args in
-    rw (c .before .plan-time .ensures) (time-opens (a .state) (a .n) (a .times .now) (a .work .now) (a .image .now) (a .stamp .time))
+    rw (c .before .plan-time .ensures) (time-opens (a .state) (a .n) (a .times .now) (a .work .now) (a .image .now) (a .stamp .sender) (a .stamp .time))
 
 same-length : tie.Need-same-length
 same-length c = search needs

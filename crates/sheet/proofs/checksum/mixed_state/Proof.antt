@@ -9,7 +9,7 @@ abbrev Inv-loop : tie.InvT-loop
 Inv-loop run r₀ i₀ r i = Unit {0}
 
 abbrev μ-loop : tie.MeasureT-loop
-μ-loop run r₀ i₀ r i = 10 - i
+μ-loop run r₀ i₀ r i = 12 - i
 
 loop-holds : tie.Need-loop-holds Inv-loop μ-loop
 loop-holds c = search needs

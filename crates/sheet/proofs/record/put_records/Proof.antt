@@ -1,17 +1,17 @@
--- `put_records` is safe and ends. The loop's invariant: the records keep their number.
+-- `put_records` is safe and ends. The loop's invariant: the records keep their number, and the kind's place is 3 before that of its word.
 -- Assumes nothing.
 use borrow.Author.Needs.{needs}
-use Prim.Native.Nat.{_-_}
+use Prim.Native.Nat.{_+_, _-_}
 use mathlib.Core.Path.{_≡_}
 use lib.ListN.{length}
 use Rattle.sheet.proofs.record.put_records.Statement.{statement}
 use Rattle.sheet.proofs.record.put_records.Tie as tie
 
 abbrev Inv-loop : tie.InvT-loop
-Inv-loop records₀ line n₀ k₀ records n k = length records ≡ length records₀
+Inv-loop records₀ line probes n₀ at₀ k₀ records n at k = (length records ≡ length records₀) × (k ≡ at + 3)
 
 abbrev μ-loop : tie.MeasureT-loop
-μ-loop records₀ line n₀ k₀ records n k = length line - k
+μ-loop records₀ line probes n₀ at₀ k₀ records n at k = length line - k
 
 loop-holds : tie.Need-loop-holds Inv-loop μ-loop
 loop-holds c = search needs
@@ -25,17 +25,26 @@ same-length c = search needs
 returns : tie.Need-returns Inv-loop μ-loop
 returns c = search needs
 
-copies-requires : tie.Need-copies-requires Inv-loop μ-loop
-copies-requires c κs = search needs
-
 kind-number-requires : tie.Need-kind-number-requires Inv-loop μ-loop
 kind-number-requires c κs = search needs
+
+probe-at-requires : tie.Need-probe-at-requires Inv-loop μ-loop
+probe-at-requires c κs = search needs
+
+cast-stored : tie.Need-cast-stored Inv-loop μ-loop
+cast-stored c = search needs
 
 stored-requires : tie.Need-stored-requires Inv-loop μ-loop
 stored-requires c κs = search needs
 
+copies-requires : tie.Need-copies-requires Inv-loop μ-loop
+copies-requires c κs = search needs
+
 put-copies-requires : tie.Need-put-copies-requires Inv-loop μ-loop
 put-copies-requires c κs = search needs
+
+add-at : tie.Need-add-at Inv-loop μ-loop
+add-at c = search needs
 
 add-k : tie.Need-add-k Inv-loop μ-loop
 add-k c = search needs
@@ -62,10 +71,13 @@ put-records-spec =
     word-requires
     same-length
     returns
-    copies-requires
     kind-number-requires
+    probe-at-requires
+    cast-stored
     stored-requires
+    copies-requires
     put-copies-requires
+    add-at
     add-k
     loop-less
     loop-again

@@ -1,4 +1,4 @@
--- `has_unknown_kind` meets its contract: its code is walked. The slice is looked into in each turn.
+-- `has_bad_record` meets its contract: its code is walked. The slice is looked into in each turn.
 -- Assumes nothing.
 use mathlib.Core.Path.{_≡_, refl, sym, _∙_, ap}
 use Prim.Native.Nat.{ℕ, _+_, _<_, _^_, zero-le}
@@ -47,19 +47,18 @@ use Rattle.recording.specs.declared.SignalRecord.{SignalRecord}
 use Rattle.records.proofs.Rows.{blank, vals, scaled, typed, made}
 use Rattle.recording.proofs.SignalRecord as T
 use Rattle.recording.proofs.SignalRecord.Laws as T′
-use Rattle.signal.specs.Kind.{knownKind}
-use Rattle.recording.specs.Refusals.{unknownKind}
+use Rattle.recording.specs.Refusals.{badRecord, anyBad}
 use Rattle.records.proofs.Upto.{rest-of, Upto, Nearer, Nearer-wf}
-use Rattle.records.proofs.UnknownLaws.{unknownUpto, unknown-none, unknown-all, unknown-more}
-use Rattle.records.proofs.or_unknown as one
-use Rattle.records.proofs.or_unknown.Symbol as one-def
-use Rattle.records.proofs.or_unknown.Symbol.{name as #records·or-unknown}
-use Rattle.records.proofs.or_unknown.Met as one-thm
-use Rattle.records.proofs.has_unknown_kind.Key.{name as #records·has-unknown-kind}
-use Rattle.records.proofs.has_unknown_kind as has
-use Rattle.records.proofs.has_unknown_kind.Statement as stated
-use Rattle.records.proofs.has_unknown_kind.Code as code
-use Rattle.records.proofs.has_unknown_kind.Code.Mir as steps
+use Rattle.records.proofs.BadLaws.{badUpto, bad-none, bad-all, bad-more}
+use Rattle.records.proofs.or_bad as one
+use Rattle.records.proofs.or_bad.Symbol as one-def
+use Rattle.records.proofs.or_bad.Symbol.{name as #records·or-bad}
+use Rattle.records.proofs.or_bad.Met as one-thm
+use Rattle.records.proofs.has_bad_record.Key.{name as #records·has-bad-record}
+use Rattle.records.proofs.has_bad_record as has
+use Rattle.records.proofs.has_bad_record.Statement as stated
+use Rattle.records.proofs.has_bad_record.Code as code
+use Rattle.records.proofs.has_bad_record.Code.Mir as steps
 
 abbrev word : Ty
 word = tyInt w64
@@ -96,13 +95,13 @@ module _ {M : Type 1} (𝓤 : URA M) (H : Heap 𝓤) (A : Atoms 𝓤) (W : Given
   abbrev to : Bool → SignalRecord → One 𝓤 H A mem run .Ghost
   to t h = ((tt, tt, tt, (t, (h, tt)), (bool-vals t, (vals h, tt))), tt)
 
-  exits : (t : Bool) → t ≡ unknownKind ys → ent 𝓤 (⋆ 𝓤 H A (‵ (flft κr qr) ∷ ‵ (ShrSlice (named 0) κr T.the-row .own (xr γr ys) (vr ∷ [])) ∷ [])) (Post (vbool t))
+  exits : (t : Bool) → t ≡ anyBad ys → ent 𝓤 (⋆ 𝓤 H A (‵ (flft κr qr) ∷ ‵ (ShrSlice (named 0) κr T.the-row .own (xr γr ys) (vr ∷ [])) ∷ [])) (Post (vbool t))
   exits t e =
       qed W (‵ (flft κr qr) ∷ ‵ (ShrSlice (named 0) κr T.the-row .own (xr γr ys) (vr ∷ [])) ∷ []) ∵
       suffices ! _ (ends-at 𝓤 H A has.ended stayed (has.clauses 𝓤 H A mem run) W (((κr, tt), (qr, tt), tt, (xr γr ys, tt), at), tt) (vbool t) t (tt, tt) (tt, tt)) $ says ! e $ nothing ! $
       move ! (1 ∷ 0 ∷ []) $ join ! $ frame ! $ nothing ! $ move ! (1 ∷ 0 ∷ []) $ fjoin ! $ frame ! $ owned ! bool (Is bool) (bool-makes 𝓤 H A W) t _ refl $ done !
 
-  module _ (𝓣 : Tables 𝓤 H) (known : Triple 𝓤 (𝓣 .C #records·or-unknown) (One 𝓤 H A mem run)) (l₀ l₁ l₂ l₃ l₄ l₅ l₆ l₇ : ℕ) where
+  module _ (𝓣 : Tables 𝓤 H) (known : Triple 𝓤 (𝓣 .C #records·or-bad) (One 𝓤 H A mem run)) (l₀ l₁ l₂ l₃ l₄ l₅ l₆ l₇ : ℕ) where
     abbrev En : Env 𝓤 H
     En = (tyBool, l₀) ∷ (slice, l₁) ∷ (tyBool, l₂) ∷ (word, l₃) ∷ (word, l₄) ∷ (tyBool, l₅) ∷ (tyPtr, l₆) ∷ (T′.mir, l₇) ∷ []
 
@@ -110,7 +109,7 @@ module _ {M : Type 1} (𝓤 : URA M) (H : Heap 𝓤) (A : Atoms 𝓤) (W : Given
     abbrev At : Upto n → List (Item 𝓤)
     At i =
         ‵ (froom T′.mir l₇ 0) ∷ ‵ (fdies T′.mir l₇) ∷ ‵ (froom tyPtr l₆ 0) ∷ ‵ (fdies tyPtr l₆) ∷ ‵ (froom tyBool l₅ 0) ∷ ‵ (fdies tyBool l₅) ∷ ‵ (froom word l₄ 0) ∷ ‵ (fdies word l₄) ∷
-        ‵ (fat fullShare word l₃ 0 (vint w64 (i .0))) ∷ ‵ (fdies word l₃) ∷ ‵ (fat fullShare tyBool l₂ 0 (vbool (unknownUpto ys (i .0)))) ∷ ‵ (fdies tyBool l₂) ∷ ‵ (fat fullShare slice l₁ 0 (vr)) ∷
+        ‵ (fat fullShare word l₃ 0 (vint w64 (i .0))) ∷ ‵ (fdies word l₃) ∷ ‵ (fat fullShare tyBool l₂ 0 (vbool (badUpto ys (i .0)))) ∷ ‵ (fdies tyBool l₂) ∷ ‵ (fat fullShare slice l₁ 0 (vr)) ∷
         ‵ (fdies slice l₁) ∷ ‵ (froom tyBool l₀ 0) ∷ ‵ (fdies tyBool l₀) ∷ ‵ Own ∷ ‵ (flft κr qr) ∷ []
 
     -- a turn ends nearer to n, or the loop is left and the rest of the body runs
@@ -137,17 +136,17 @@ module _ {M : Type 1} (𝓤 : URA M) (H : Heap 𝓤) (A : Atoms 𝓤) (W : Given
         calls-at ! (fmOf 𝓤 H (W .laws) 𝓣) (One 𝓤 H A mem run) known (to seen old) (and-then ! (load ! (from ! (stop !)) (look ! 14 refl)) (and-then ! (load ! (from ! (stop !)) (look ! 4 refl)) (no-more !))) (λ u.
         use1 W (later (some (λ (t : Bool). (‵ ftrue ⊛ ‵ (bool .own t (u ∷ []))) ⊛ raw (ensured 𝓤 H A one.ended (one.clauses 𝓤 H A mem run) tt (seen, (old, tt)) tt t)))) (id⊢ 𝓤 _) $ await ! tt $ pick ! (λ t.
         split ! $ move ! (1 ∷ []) $
-        use1 W (raw (fact 𝓤 (t ≡ (seen || not (knownKind (old .kind)))))) (exE 𝓤 _ (λ ws. snd∗ 𝓤 (sem 𝓤 H A (lasts one.ended tt (seen, (old, tt)) ws)) (fact 𝓤 (t ≡ (seen || not (knownKind (old .kind))))))) $
-        heard ! (t ≡ (seen || not (knownKind (old .kind)))) (λ e. split ! $ rewrite ! 1 (λ (z : Bool). ‵ (bool .own z (u ∷ []))) (e ∙ unknown-more ys (i .0) l) refl $ move ! (1 ∷ []) $
-        peeks ! bool (Is bool) (shows 𝓤 H A bool) (unknownUpto ys (i .0 + 1)) (u ∷ []) (λ is′. land ! (from ! (stop !)) (store ! 15 refl (bool-lawful 𝓤 H A W .typed (unknownUpto ys (i .0 + 1)) _ is′ .0)) $
-        rewrite ! 15 (λ (z : Val). ‵ (fat fullShare tyBool l₂ 0 z)) (ap only (bool-tells (unknownUpto ys (i .0 + 1)) _ is′)) refl $ drop ! $ drop ! $
+        use1 W (raw (fact 𝓤 (t ≡ (seen || badRecord old)))) (exE 𝓤 _ (λ ws. snd∗ 𝓤 (sem 𝓤 H A (lasts one.ended tt (seen, (old, tt)) ws)) (fact 𝓤 (t ≡ (seen || badRecord old))))) $
+        heard ! (t ≡ (seen || badRecord old)) (λ e. split ! $ rewrite ! 1 (λ (z : Bool). ‵ (bool .own z (u ∷ []))) (e ∙ bad-more ys (i .0) l) refl $ move ! (1 ∷ []) $
+        peeks ! bool (Is bool) (shows 𝓤 H A bool) (badUpto ys (i .0 + 1)) (u ∷ []) (λ is′. land ! (from ! (stop !)) (store ! 15 refl (bool-lawful 𝓤 H A W .typed (badUpto ys (i .0 + 1)) _ is′ .0)) $
+        rewrite ! 15 (λ (z : Val). ‵ (fat fullShare tyBool l₂ 0 z)) (ap only (bool-tells (badUpto ys (i .0 + 1)) _ is′)) refl $ drop ! $ drop ! $
         assigns-last ! (bin ! (load ! (from ! (stop !)) (look ! 11 refl)) (lit ! tt) (record { fits = fits (next less) })) (from ! (stop !)) (store ! 11 refl (tt, record { fits = fits (next less) })) $
         forget ! 9 refl $ forget ! 7 refl $ forget ! 5 refl $ forget ! 3 refl $ keep ! (3 ∷ 4 ∷ 5 ∷ 6 ∷ 7 ∷ 8 ∷ 9 ∷ 10 ∷ 11 ∷ 12 ∷ 13 ∷ 14 ∷ 15 ∷ 16 ∷ 17 ∷ 18 ∷ 2 ∷ 0 ∷ []) $
         again ! (Nearer n) At i (next less) (add-one-dec n (i .0) l))))))))
         (λ over. jumps ! $ exec ! (𝓣 .C) (𝓣 .Λ) En steps.t-4 (atRet En Post) $ assigns ! (of-opd ! (load ! (from ! (stop !)) (look ! 10 refl))) (from ! (stop !)) (init ! 14 refl (tt, tt)) $
         returns ! (look ! 14 refl) $ forget ! 14 refl $ forget ! 12 refl $ forget ! 10 refl $ forget ! 8 refl $ forget ! 6 refl $ forget ! 4 refl $ move ! (14 ∷ 15 ∷ []) $ free1 ! $
         move ! (12 ∷ 13 ∷ []) $ free1 ! $ move ! (10 ∷ 11 ∷ []) $ free1 ! $ move ! (8 ∷ 9 ∷ []) $ free1 ! $ move ! (6 ∷ 7 ∷ []) $ free1 ! $ move ! (4 ∷ 5 ∷ []) $ free1 ! $ move ! (2 ∷ 3 ∷ []) $ free1 ! $
-        free1 ! $ free0 ! $ keep ! (1 ∷ 0 ∷ []) $ by ! (exits (unknownUpto ys (i .0)) (ap (unknownUpto ys) (at-end over) ∙ unknown-all ys)))
+        free1 ! $ free0 ! $ keep ! (1 ∷ 0 ∷ []) $ by ! (exits (badUpto ys (i .0)) (ap (badUpto ys) (at-end over) ∙ bad-all ys)))
       where
         fits : (j : Upto n) → j .0 < 2 ^ 64
         fits j = lt-of-le-of-lt (j .1) (roomr .0)
@@ -162,19 +161,19 @@ module _ {M : Type 1} (𝓤 : URA M) (H : Heap 𝓤) (A : Atoms 𝓤) (W : Given
         old = getD ys (i .0) blank
 
         seen : Bool
-        seen = unknownUpto ys (i .0)
+        seen = badUpto ys (i .0)
 
-  walk : (𝓣 : Tables 𝓤 H) → Triple 𝓤 (𝓣 .C #records·or-unknown) (One 𝓤 H A mem run)
+  walk : (𝓣 : Tables 𝓤 H) → Triple 𝓤 (𝓣 .C #records·or-bad) (One 𝓤 H A mem run)
       → ent 𝓤 (onEntry 𝓤 H A has.signature (κr, tt) (qr, tt) (xr γr ys, tt) at) (WpFn 𝓤 H (𝓣 .C) (𝓣 .Λ) code.function (vr ∷ []) Post)
   walk 𝓣 known =
       qed W ((‵ (flft κr qr) ⊛ ‵ ftrue) ∷ ‵ (owns (ShrSlice (named 0) κr T.the-row ∷ []) (xr γr ys, tt) at) ∷ []) ∵
       split ! $ move ! (1 ∷ []) $ drop ! $ move ! (1 ∷ []) $ fsplit ! $ move ! (1 ∷ []) $ drop ! $ enter ! (𝓣 .C) (𝓣 .Λ) code.function (vr ∷ []) _ $
       alloc1 ! (λ l₀. alloc1 ! (λ l₁. alloc1 ! (λ l₂. alloc1 ! (λ l₃. alloc1 ! (λ l₄. alloc1 ! (λ l₅. alloc1 ! (λ l₆. alloc1 ! (λ l₇. alloc0 ! $ params1 ! $
       pass1 ! (init ! 12 refl (tt, (tt, (record { fits = roomr .0 }, tt)))) $ pass0 ! $ assigns ! (of-opd ! (false-lit !)) (from ! (stop !)) (init ! 10 refl (tt, tt)) $
-      rewrite ! 10 (λ (t : Bool). ‵ (fat fullShare tyBool l₂ 0 (vbool t))) (unknown-none ys) refl $ assigns ! (of-opd ! (lit ! tt)) (from ! (stop !)) (init ! 8 refl (tt, record { fits = lit< tt })) $
+      rewrite ! 10 (λ (t : Bool). ‵ (fat fullShare tyBool l₂ 0 (vbool t))) (bad-none ys) refl $ assigns ! (of-opd ! (lit ! tt)) (from ! (stop !)) (init ! 8 refl (tt, record { fits = lit< tt })) $
       first ! $ blocks ! $ loops ! 𝓣 (Nearer n) (Nearer-wf n) (At 𝓣 known l₀ l₁ l₂ l₃ l₄ l₅ l₆ l₇) (turns 𝓣 known l₀ l₁ l₂ l₃ l₄ l₅ l₆ l₇) (0, zero-le)))))))))
 
-module _ {M : Type 1} (𝓤 : URA M) (H : Heap 𝓤) (A : Atoms 𝓤) (W : Given 𝓤 H A) (mem : Memory → SProp 𝓤) (run : Routine → Fun 𝓤) (𝓣 : Tables 𝓤 H) (known : Triple 𝓤 (𝓣 .C #records·or-unknown) (One 𝓤 H A mem run)) where
+module _ {M : Type 1} (𝓤 : URA M) (H : Heap 𝓤) (A : Atoms 𝓤) (W : Given 𝓤 H A) (mem : Memory → SProp 𝓤) (run : Routine → Fun 𝓤) (𝓣 : Tables 𝓤 H) (known : Triple 𝓤 (𝓣 .C #records·or-bad) (One 𝓤 H A mem run)) where
   walks : Walks 𝓤 H A has.ended stayed (WpFn 𝓤 H (𝓣 .C) (𝓣 .Λ) code.function) (has.clauses 𝓤 H A mem run)
   walks = walked 𝓤 H A has.ended stayed (has.clauses 𝓤 H A mem run) (WpFn 𝓤 H (𝓣 .C) (𝓣 .Λ) code.function)
       (λ κs. (slice-vals, tt))
@@ -187,10 +186,10 @@ module _ {M : Type 1} (𝓤 : URA M) (H : Heap 𝓤) (A : Atoms 𝓤) (W : Given
       (goes-none-slice 𝓤 H A W 1 (0 ∷ []) tt (plain (λ _. T.the-row)) yes, tt)
       (has.clauses 𝓤 H A mem run) (WpFn 𝓤 H (𝓣 .C) (𝓣 .Λ) code.function) (WpFn-mono 𝓤 H (W .laws) 𝓣 code.function) walks
 
-pub has-unknown-kind-spec : {M : Type 1} → stated.statement M
+pub has-bad-record-spec : {M : Type 1} → stated.statement M
 unfolding code.routine tablesOf
-has-unknown-kind-spec 𝓤 H 𝓜 𝓖 𝓡 =
+has-bad-record-spec 𝓤 H 𝓜 𝓖 𝓡 =
     entered 𝓤 H (tripleOf 𝓤 H (𝓖 .A) has.signature (has.spec 𝓤 H (𝓖 .A) (𝓜 .mem) (𝓡 .run)))
-    (tables 𝓤 H 𝓜 𝓡 code.env .C) (tables 𝓤 H 𝓜 𝓡 code.env .Λ) #records·has-unknown-kind code.function (code.unfolded 𝓤 H 𝓜 𝓡)
+    (tables 𝓤 H 𝓜 𝓡 code.env .C) (tables 𝓤 H 𝓜 𝓡 code.env .Λ) #records·has-bad-record code.function (code.unfolded 𝓤 H 𝓜 𝓡)
     (meets 𝓤 H (𝓖 .A) (givenOf 𝓤 H 𝓜 𝓖) (𝓜 .mem) (𝓡 .run) (tablesOf 𝓤 H 𝓜 (tables 𝓤 H 𝓜 𝓡 code.env))
-    (cited 𝓤 H (One 𝓤 H (𝓖 .A) (𝓜 .mem) (𝓡 .run)) 𝓜 𝓡 code.env #records·or-unknown one-def.routine code.calls-records·or-unknown (one-thm.met 𝓤 H 𝓜 𝓖 𝓡)))
+    (cited 𝓤 H (One 𝓤 H (𝓖 .A) (𝓜 .mem) (𝓡 .run)) 𝓜 𝓡 code.env #records·or-bad one-def.routine code.calls-records·or-bad (one-thm.met 𝓤 H 𝓜 𝓖 𝓡)))

@@ -1,0 +1,4 @@
+pub mod Twins
+pub mod ImageLaws
+pub mod Apart
+pub mod Cases
