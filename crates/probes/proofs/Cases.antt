@@ -9,17 +9,21 @@ use lib.ListN.{length, replicate}
 use lib.Dec.{eqb}
 use Rattle.lists.specs.Choice.{pick}
 use Rattle.lists.specs.Last.{lastOr}
-use Rattle.numbers.specs.Leb128.{groups, lebOf}
+use Rattle.lists.specs.Same.{same}
+use Rattle.numbers.specs.Leb128.{groups, lebOf, readLeb}
 use Rattle.numbers.specs.LittleEndian.{le, unle}
 use Rattle.value.specs.Symbol.{symbolOf}
-use Rattle.value.specs.Class.{classOfAll}
+use Rattle.value.specs.Class.{classOfAll, allSymbols}
 use Rattle.value.specs.declared.states.States.the-variants.{Nine}
 use Rattle.vcd.specs.Vcd.{symbolsIn, vcdBit}
+use Rattle.packed.specs.Packed.{numberOf, digits, packed, unpacked}
 use Rattle.signal.specs.Content.{vcd, decode}
 use Rattle.signal.specs.declared.kind.SignalEncoding.the-variants.{BitVector}
-use Rattle.stream.specs.Stream.{changeBytes}
+use Rattle.stream.specs.Stream.{changeBytes, valueAfter, readChange}
+use Rattle.stream.specs.Entries.{streamBytes}
 use Rattle.image.specs.Block.{les, dataOf, offsetsFrom, blockBytes}
 use Rattle.image.specs.Head.{headBytes}
+use Rattle.image.specs.Image.{streamedParts, blocksBytes, imageBytes}
 use Rattle.recording.specs.declared.SignalRecord.{SignalRecord}
 use Rattle.recording.specs.Calls.{Call, time, change, finish, Fitting, Heard, taken, back, recorded, skipped, Reply, refuse, say, started, total, wayOf}
 use Rattle.recording.specs.Calls as calls
@@ -29,7 +33,15 @@ use Rattle.recording.specs.Refusals.{anyBad, startTests, stateTests}
 use Rattle.recording.specs.State.{skipBegun, skipEnded, skipSame, skipCounted, skipOf, withSkip, settingsOf}
 use Rattle.recording.specs.Step.{withState, skipping, partsFrom, cutOf, timeOf, changeOf, finishOf, startOf, step, run}
 use Rattle.recording.specs.Runs.{staleState}
-use Rattle.demand.specs.Demand3.{RecordsFit, Lent, Recorded, ranFrom}
+use Rattle.form.specs.Form.{repeat, each, getChain}
+use Rattle.codec.specs.Layout.{lengths, layoutForm}
+use Rattle.codec.specs.ImageForm.{stream, blockForm, headForm, imageForm}
+use Rattle.codec.specs.Valid.{risingFrom?, rising?, eachBelow?, knownKinds?, contentFits?, entryFits?, entriesFit?, partFits?, partsFit?, starts?, blockFits?, blocksFit?, valid?}
+use Rattle.codec.specs.Parse.{parse}
+use Rattle.loaded.specs.Loading.{moved, repeatsLast, pushed, loadFrom}
+use Rattle.loaded.specs.EntryBytes.{entryBytes, entriesBytes}
+use Rattle.loaded.specs.Reader.{loadOf, loadAfter, loaded, loadIn}
+use Rattle.demand.specs.Demand3.{RecordsFit, Lent, Recorded, ranFrom, leftBy}
 use Rattle.demand.proofs.RunLoads.{stale-fits, nines-at, nines-slice, one}
 use Rattle.probes.specs.Probes.{toOne, Pair}
 use Rattle.probes.specs.Probes as probes
@@ -109,6 +121,26 @@ pair = record {
   first-room = ((said _, said _), ((said _, said _), ((said _, said _), tt)));
   second-room = ((said _, said _), ((six _ (λ z. omega arith), six _ (λ z. omega arith)), ((said _, said _), tt)));
 }
+
+-- one time, and at it both changes or probe 1's alone
+abbrev goodImage : List ℕ
+goodImage = les 4 (2 ∷ 2 ∷ 1 ∷ 56 ∷ 1 ∷ 1 ∷ []) ++ (les 4 (32 ∷ 1 ∷ 2 ∷ 1 ∷ 3 ∷ []) ++ (les 8 (5 ∷ []) ++ (0x00 ∷ 0x01 ∷ 0x00 ∷ 0x01 ∷ [])))
+
+abbrev badImage : List ℕ
+badImage = les 4 (2 ∷ 2 ∷ 1 ∷ 54 ∷ 1 ∷ 1 ∷ []) ++ (les 4 (30 ∷ 1 ∷ 2 ∷ 0 ∷ 1 ∷ []) ++ (les 8 (5 ∷ []) ++ (0x00 ∷ 0x01 ∷ [])))
+
+pub pair-left : (leftBy (settingsOf 2 2 1) shared (lists good) 56 ≡ goodImage) × (leftBy (settingsOf 2 2 1) shared (lists bad) 54 ≡ badImage)
+unfolding groups lebOf le unle symbolOf classOfAll symbolsIn lastOr vcdBit decode changeBytes les dataOf offsetsFrom blockBytes headBytes wayOf skipOf withSkip skipBegun skipEnded skipSame
+    skipCounted itemsOf gather anyBad startTests stateTests partsFrom cutOf timeOf changeOf finishOf startOf step run toOne
+pair-left = (refl, refl)
+
+-- what is loaded of signal 0 differs; of signal 1 it is the same, as the claim says
+pub pair-loads : (loadOf goodImage 0 (9 ∷ []) (9 ∷ []) ≡ loadAfter (loaded 1 0) (0 ∷ []) (1 ∷ [])) × (loadOf badImage 0 (9 ∷ []) (9 ∷ []) ≡ loadAfter (loaded 0 2) (9 ∷ []) (9 ∷ []))
+    × (loadOf goodImage 1 (9 ∷ []) (9 ∷ []) ≡ loadAfter (loaded 1 0) (0 ∷ []) (1 ∷ [])) × (loadOf badImage 1 (9 ∷ []) (9 ∷ []) ≡ loadAfter (loaded 1 0) (0 ∷ []) (1 ∷ []))
+unfolding les parse imageForm headForm blockForm layoutForm repeat each lengths unle readLeb stream getChain readChange valueAfter unpacked classOfAll allSymbols digits numberOf
+    lastOr imageBytes blocksBytes streamedParts streamBytes headBytes blockBytes dataOf offsetsFrom le lebOf groups changeBytes packed risingFrom? rising? eachBelow? knownKinds?
+    contentFits? entryFits? entriesFit? partFits? partsFit? starts? blockFits? blocksFit? valid? moved repeatsLast pushed loadFrom entryBytes entriesBytes loadIn same
+pair-loads = (refl, refl, refl, refl)
 
 -- ---- what is left out
 
