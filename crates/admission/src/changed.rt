@@ -8,7 +8,7 @@ use recording::{Answer, Encoder, SignalRecord};
 use value::states::States;
 
 // What a change answers, with the state and the signal's record after it.
-#[derive(Drop)]
+#[derive(Clone, Copy)]
 pub struct Changed {
     pub answer: Answer,
     pub state: Encoder,

@@ -10,7 +10,7 @@ use signal::kind::MAX_WIDTH;
 use stream_length::change_len;
 
 // Whether a change's record of the work buffer has begun.
-#[derive(Drop)]
+#[derive(Clone, Copy)]
 pub enum ItemStart {
     Refused(u32),
     // The stream length; the head is written.

@@ -2,6 +2,8 @@
 // the work buffer (`item`); answer, state and record after it (`changed`). Document 01, 'Recording' and 'Turned back'; document 02, (k).
 //
 // The contracts cite specs/Stages.antt and the tables of recording/specs/Refusals.antt. Crate change puts these together with the value's decoding and its bytes.
+#![tactic(auto)]
+
 ghost use Rattle.std.specs.Prelude.{◌≡◌};
 ghost use Rattle.recording.specs.Memory.{first};
 ghost use Rattle.recording.specs.Refusals.{signal_tests};
@@ -14,7 +16,7 @@ pub mod changed;
 pub mod item;
 
 // Whether a change's value is looked at.
-#[derive(Drop)]
+#[derive(Clone, Copy)]
 pub enum Admission {
     Refused(u32),
     Skipped,

@@ -1,2 +1,4 @@
 // Text as bytes. The contracts cite specs/Ascii.antt and specs/Put.antt.
+#![tactic(auto)]
+
 pub mod write;

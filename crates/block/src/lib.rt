@@ -5,5 +5,7 @@
 // its caller's, one `pass::begin_part` for each; `block::open_block` goes before it and `block::close_block` after it. What each pass does
 // is defined in specs/Passes.antt; proofs/BlockLaws.antt has that together they leave the bytes that `block_bytes` (image, specs/Block.antt)
 // says.
+#![tactic(auto)]
+
 pub mod block;
 pub mod pass;

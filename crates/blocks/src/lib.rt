@@ -1,6 +1,8 @@
 // One block of an image, read at a place. Document 01, 'Block and image'.
 //
 // The contracts cite specs/Blocks.antt; that its tests are those of crate codec's `walk_block` is proved in proofs/BlockLaws.antt.
+#![tactic(auto)]
+
 ghost use Rattle.std.specs.Prelude.{◌≡◌, ◌+◌, ◌≤◌, ◌<◌, length};
 ghost use Rattle.codec.specs.Ends.{end_of};
 ghost use Rattle.reading.specs.Decided.{is_yes};
@@ -17,14 +19,14 @@ use parts::are_parts;
 use reading::times::{Times, times_at};
 
 // How many bytes and how many times a block has, or no block.
-#[derive(Drop)]
+#[derive(Clone, Copy)]
 pub enum BlockFront {
     Sizes(usize, u32),
     Wrong,
 }
 
 // The place after a block and its last time, or no block.
-#[derive(Drop)]
+#[derive(Clone, Copy)]
 pub enum NextBlock {
     At(usize, u64),
     Wrong,

@@ -5,6 +5,8 @@
 // is `change_of` of crate recording for one record; crate admission says what is answered on the way.
 //
 // Each notation has its own path from the tests to the bytes, so that each call compiles into one function.
+#![tactic(auto)]
+
 ghost use Rattle.std.specs.Prelude.{◌≡◌, ◌≤◌, ◌<◌, length};
 ghost use Rattle.signal.specs.Content.{vcd, raw, real, decode};
 ghost use Rattle.signal.specs.Answer.{decoded_as};

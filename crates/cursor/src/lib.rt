@@ -1,6 +1,8 @@
 // The cursor over an accepted image: document 01, 'Loaded signal'.
 //
 // One pass over a signal's changes finds the entry (crate `cursor_point`); then that entry's value is answered (shown.rt). Nothing is loaded.
+#![tactic(auto)]
+
 pub mod shown;
 
 ghost use Rattle.std.specs.Prelude.{◌≡◌};

@@ -1,6 +1,8 @@
 // The entry that the cursor points to: one pass over a signal's changes up to time t, repeats dropped as in loading, that counts the entries
 // and holds the last. What the pass does is specs/Point.antt; that it finds the entry which `entry_at` of the crate loaded names is proved in
 // proofs/PointLaws and proofs/LoadLaws.
+#![tactic(auto)]
+
 ghost use Rattle.std.specs.Prelude.{◌≡◌, ℕ, ◌+◌, ◌≤◌, ◌<◌, ◌^◌};
 ghost use Rattle.loaded.specs.Opener.{kind_at, block_at, part_at};
 ghost use Rattle.loaded.specs.Loading.{entries_in};
@@ -18,7 +20,7 @@ use walk::head::block_count;
 use walk_part::part_in;
 
 // How many entries are kept so far; the time of the last of them, and its change or the newest that repeats it.
-#[derive(Drop)]
+#[derive(Clone, Copy)]
 pub struct Pointing {
     pub count: u32,
     pub time: u64,

@@ -2,6 +2,8 @@
 // 02 (a); the text is ours. The contracts cite specs/At.antt.
 //
 // `at_text` takes any bytes and opens them once. A text has at most 524,288 bytes (proofs/BoundLaws.antt).
+#![tactic(auto)]
+
 mod signals;
 
 ghost use Rattle.std.specs.Prelude.{◌≤◌, length};

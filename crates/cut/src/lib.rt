@@ -2,6 +2,8 @@
 //
 // Its size is known before the first byte is written. All is linear in the work, the signals and the times. The loop over the signals'
 // records is its caller's: it makes a turn of `begin_record` for each, after `open_cut` and before `close_cut` (specs/Turns.antt).
+#![tactic(auto)]
+
 ghost use Rattle.std.specs.Prelude.{◌≡◌, ◌+◌, ◌≤◌, ◌<◌, length, drop};
 ghost use Rattle.recording.specs.Work.{items_in};
 ghost use Rattle.recording.specs.Step.{with_cut};
@@ -17,7 +19,7 @@ use recording::{Encoder, SignalRecord};
 use work::{Measured, measure};
 
 // A refusal's number, 0 where the block can be cut, and the bytes that it takes.
-#[derive(Drop)]
+#[derive(Clone, Copy)]
 pub struct CutSize {
     pub refusal: u32,
     pub size: u32,

@@ -1,5 +1,7 @@
 // Numbers that stand in text: digits, decimal numbers, the 64 bits of a real in hexadecimal. Any bytes are read. The contracts cite
 // specs/Numbers.antt and, for the answers, specs/Value.antt. No public function has a `requires`.
+#![tactic(auto)]
+
 ghost use Rattle.std.specs.Prelude.{◌≡◌, ◌≤◌};
 ghost use Rattle.digits.specs.Numbers.{digit_of, number_to, bits_of};
 ghost use Rattle.digits.specs.Value.{value_in, value_in32};
@@ -7,14 +9,14 @@ ghost use Rattle.digits.specs.Value.{value_in, value_in32};
 use numbers::wide_64;
 
 // A number of 64 bits, or none.
-#[derive(Drop)]
+#[derive(Clone, Copy)]
 pub enum Number {
     Value(u64),
     None,
 }
 
 // A number of 32 bits, or none.
-#[derive(Drop)]
+#[derive(Clone, Copy)]
 pub enum Number32 {
     Value(u32),
     None,

@@ -13,7 +13,7 @@ use records::find_record;
 use value::states::States;
 
 // The class that it claims, its signal's width, and the bytes that it borrows.
-#[derive(Drop)]
+#[derive(Clone, Copy)]
 pub struct RawValue<'b> {
     pub claim: States,
     pub width: u32,

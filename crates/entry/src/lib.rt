@@ -2,5 +2,7 @@
 //
 // How long it is (length.rt), and the parts of the change that it is made of (read.rt). A change's content is that of specs/Read.antt, the
 // bytes are those of the crate loaded (specs/EntryBytes.antt). On these stand `entry_put`, `entry_same` and `entry_answer`.
+#![tactic(auto)]
+
 pub mod length;
 pub mod read;

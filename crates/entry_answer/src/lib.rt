@@ -1,4 +1,6 @@
 // One entry's bytes answered as a value. Document 01, 'Loaded signal'. The contracts cite specs/Answer.antt.
+#![tactic(auto)]
+
 ghost use Rattle.std.specs.Prelude.{◌≡◌, ◌∷◌, [], ◌%◌, ◌≤◌, ◌<◌, length};
 ghost use Rattle.value.specs.Class.{class_number, all_symbols};
 ghost use Rattle.packed.specs.Packed.{packed_length, unpacked};
@@ -19,7 +21,7 @@ use value::states::{MaybeStates, States};
 use value::symbol::Bit;
 
 // What the bytes of one entry say.
-#[derive(Drop)]
+#[derive(Clone, Copy)]
 pub enum EntryAnswer {
     // The entry's value; a vector's symbols stand in the lent buffer.
     Value(Entry),

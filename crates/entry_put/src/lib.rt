@@ -1,5 +1,7 @@
 // One entry's bytes, out of the change that was read in a stream. Each writes from at on. Document 01, 'Loaded signal'. The contracts cite
 // loaded/specs/EntryBytes.antt.
+#![tactic(auto)]
+
 ghost use Rattle.std.specs.Prelude.{◌≡◌, ◌∷◌, [], ◌+◌, ◌*◌, ◌≤◌, ◌<◌, length, get_or, set};
 ghost use Rattle.std.proofs.lemmas.List.Edits.{sets};
 ghost use Rattle.value.specs.Class.{class_number, class_of, class_of_all};

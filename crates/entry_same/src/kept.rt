@@ -8,7 +8,7 @@ use signal::decode::ChangeValue;
 use signal::kind::SignalEncoding;
 
 // A kept change: its value, and the place in the image after it.
-#[derive(Drop)]
+#[derive(Clone, Copy)]
 pub enum KeptChange {
     Nothing,
     Change(ChangeValue, usize),

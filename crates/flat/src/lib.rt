@@ -5,6 +5,8 @@
 // records and lent buffers at exit and a definition of recording/specs/Step.antt over those at entry. Signal records are stored as
 // numbers (crate storage); the loops over them are in crate flat_records, the change calls in crate flat_changes; what does not depend on that
 // is decided in crates plan, plan_state, change and admission.
+#![tactic(auto)]
+
 pub mod finish;
 pub mod start;
 pub mod time;

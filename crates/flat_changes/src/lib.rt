@@ -1,5 +1,7 @@
 // The three change calls of the recorder over records stored as numbers: a VCD, a raw and a real value. Crate flat has the other calls, and
 // says how the contracts are to be read.
+#![tactic(auto)]
+
 ghost use Rattle.std.specs.Prelude.{◌≡◌, length, set};
 ghost use Rattle.signal.specs.Content.{vcd, raw, real};
 ghost use Rattle.recording.specs.Memory.{memory, left};

@@ -1,5 +1,7 @@
 // The loops over records stored as numbers, of a start and of a cut: the turns that crate plan leaves to its callers. For crate flat.
 // The contracts cite head/specs/Kinds.antt and cut/specs/Turns.antt.
+#![tactic(auto)]
+
 ghost use Rattle.std.specs.Prelude.{◌≡◌};
 ghost use Rattle.recording.specs.Step as step;
 ghost use Rattle.storage.specs.Storage.{records_of};

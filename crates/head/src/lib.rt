@@ -1,6 +1,8 @@
 // The writer of the head of an image without blocks. Document 01, 'Block and image'.
 //
 // The loop over the signals' records is its caller's: it makes a turn of `put_kind` for each, after `put_numbers`.
+#![tactic(auto)]
+
 ghost use Rattle.std.specs.Prelude.{◌≡◌, ◌+◌, ◌≤◌, length};
 ghost use Rattle.image.specs.Head.{kind_place};
 ghost use Rattle.head.specs.Kinds.{head_numbers, kind_put};

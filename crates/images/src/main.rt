@@ -1,5 +1,7 @@
 // Asks the reader about images. Standard input has one question to a line; each is answered on standard output, as oracle/reader.py says.
 // What is lent holds a pattern before each call, and where a call wrote what it must not, `changed` ends the line.
+#![tactic(auto)]
+
 mod ask;
 mod lent;
 mod show;

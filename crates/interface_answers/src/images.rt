@@ -13,7 +13,7 @@ use walk_part::StreamPart;
 
 // `value` is the number of kept entries, `class` the signal's.
 #[repr(C)]
-#[derive(Drop)]
+#[derive(Clone, Copy)]
 pub struct LoadNumbers {
     pub answer: u32,
     pub value: u32,
@@ -22,7 +22,7 @@ pub struct LoadNumbers {
 
 // `value` is the combined table's length.
 #[repr(C)]
-#[derive(Drop)]
+#[derive(Clone, Copy)]
 pub struct TableNumbers {
     pub answer: u32,
     pub value: u32,
@@ -30,7 +30,7 @@ pub struct TableNumbers {
 
 // `value` is the joined image's total.
 #[repr(C)]
-#[derive(Drop)]
+#[derive(Clone, Copy)]
 pub struct JoinNumbers {
     pub answer: u32,
     pub value: u32,
@@ -38,7 +38,7 @@ pub struct JoinNumbers {
 
 // A part of an image.
 #[repr(C)]
-#[derive(Drop)]
+#[derive(Clone, Copy)]
 pub struct PartNumbers {
     pub from: usize,
     pub length: usize,
@@ -46,7 +46,7 @@ pub struct PartNumbers {
 
 // An event (0), a vector (1) with its own class, or a real (2) with its bits.
 #[repr(C)]
-#[derive(Drop)]
+#[derive(Clone, Copy)]
 pub struct ContentNumbers {
     pub form: u32,
     pub class: u32,
@@ -55,7 +55,7 @@ pub struct ContentNumbers {
 
 // `value` is the entry's number.
 #[repr(C)]
-#[derive(Drop)]
+#[derive(Clone, Copy)]
 pub struct CursorNumbers {
     pub answer: u32,
     pub value: u32,
@@ -65,7 +65,7 @@ pub struct CursorNumbers {
 
 // `value` is 0, or the refusal's number.
 #[repr(C)]
-#[derive(Drop)]
+#[derive(Clone, Copy)]
 pub struct EntryNumbers {
     pub answer: u32,
     pub value: u32,

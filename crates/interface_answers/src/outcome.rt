@@ -8,7 +8,7 @@ use recording::{Answer, Outcome};
 
 // What a call answers, the refusal's number or the total bytes, and the state after it.
 #[repr(C)]
-#[derive(Drop)]
+#[derive(Clone, Copy)]
 pub struct OutcomeNumbers {
     pub answer: u32,
     pub value: u32,

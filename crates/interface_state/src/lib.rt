@@ -1,4 +1,6 @@
 // The state of a recording as numbers, for crate interface: `StateNumbers` crosses by value. The contracts cite specs/State.antt.
+#![tactic(auto)]
+
 ghost use Rattle.std.specs.Prelude.{◌≡◌};
 ghost use Rattle.interface_state.specs.State.{flag_after, state_from, state_after};
 
@@ -7,7 +9,7 @@ use recording::{Encoder, ProbeSkip, Skips};
 // The fields of `Encoder`; those that it was given later stand last, so that no offset moves. `skip` and `skipped` are probe 0's, `skip_1` and
 // `skipped_1` probe 1's. `closed`, `skip` and `skip_1` are off at 0 and on at every other number.
 #[repr(C)]
-#[derive(Drop)]
+#[derive(Clone, Copy)]
 pub struct StateNumbers {
     pub closed: u32,
     pub limit: u32,

@@ -1,6 +1,8 @@
 // One image out of two: the head of the first with N summed and the new total, then the blocks in order.
 //
 // Any bytes may be given: `join` has no `requires`. The contracts cite crate joined's specs/Join.antt.
+#![tactic(auto)]
+
 mod put;
 mod tests;
 

@@ -21,7 +21,7 @@ const NO_WIDTH: u32 = 65537;
 const NO_PROBE: u64 = 255;
 
 // The kind that a word says, or none.
-#[derive(Drop)]
+#[derive(Clone, Copy)]
 pub enum MaybeKind {
     Some(SignalEncoding),
     None,

@@ -4,6 +4,8 @@
 // `words::after` hands out a VCD value's text, `hex::put_hex` writes a raw value's bytes, `probes::put_probes` the probes of a line that names
 // them and `kinds::put_kinds` the records of a start.
 // The contracts cite specs/Line.antt. No public function has a `requires`.
+#![tactic(auto)]
+
 pub mod hex;
 pub mod kinds;
 pub mod probes;
@@ -25,7 +27,7 @@ const MAX_TIMES: u64 = 65535;
 const MAX_BYTES: u64 = 1048576;
 
 // What a line asks for, with its numbers.
-#[derive(Drop)]
+#[derive(Clone, Copy)]
 pub enum Command {
     // A comment or an empty line.
     Nothing,

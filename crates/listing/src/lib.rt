@@ -3,6 +3,8 @@
 //
 // `listing` takes any bytes and any buffer. A listing has at most 262,144 bytes (crate `listing_text`, proofs/BoundLaws.antt), so the text is
 // made in a buffer of that length, and copied where it fits.
+#![tactic(auto)]
+
 ghost use Rattle.std.specs.Prelude.{◌≡◌, ◌≤◌, length};
 ghost use Rattle.ascii.specs.Put.{Puts};
 ghost use Rattle.listing_text.specs.Listing.{listing_of, listing_limit};
@@ -13,7 +15,7 @@ use listing_text::accepted::image_text;
 use opener::open;
 
 // What a listing answers.
-#[derive(Drop)]
+#[derive(Clone, Copy)]
 pub enum Listed {
     // The text's length; it stands at the start of the lent buffer.
     Text(usize),

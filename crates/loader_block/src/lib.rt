@@ -1,5 +1,7 @@
 // The changes of a signal in one block: repeats dropped, the others counted, and written where outputs are. A block's changes make of the
 // outputs what `all_taken` says (specs/Output.antt); proofs/OutputLaws holds it against `pushed` of the crate loaded.
+#![tactic(auto)]
+
 ghost use Rattle.std.specs.Prelude.{◌≡◌, ℕ, suc, ◌+◌, ◌*◌, ◌≤◌, ◌<◌, ◌^◌, length, set};
 ghost use Rattle.std.proofs.lemmas.List.Edits.{sets};
 ghost use Rattle.value.specs.Class.{class_number, class_of_all};
@@ -24,7 +26,7 @@ use walk::head::kind_at;
 use walk_part::part_in;
 
 // How many entries are kept, how many bytes they have, the last of them.
-#[derive(Drop)]
+#[derive(Clone, Copy)]
 pub struct Loading {
     pub count: u32,
     pub used: usize,

@@ -1,5 +1,7 @@
 // What the blocks say of a signal without its changes: how many bytes its streams have, and with them how many entries at most, and
 // its class. Document 01, 'Loaded signal'. The contracts cite specs/Least.antt and loaded/specs/Loading.antt.
+#![tactic(auto)]
+
 ghost use Rattle.std.specs.Prelude.{◌≡◌, ◌≤◌};
 ghost use Rattle.image.specs.Head.{image_limit};
 ghost use Rattle.loaded.specs.Opener.{kind_at};
@@ -15,7 +17,7 @@ use walk::head::block_count;
 use walk_part::part_in;
 
 // How many bytes a signal's streams have in all blocks, and its largest top class.
-#[derive(Drop)]
+#[derive(Clone, Copy)]
 pub struct Measured {
     pub bytes: usize,
     pub top: u8,

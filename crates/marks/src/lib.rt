@@ -1,4 +1,6 @@
 // A set of small numbers in lent bytes, one bit each. Bytes of 0 are the empty set.
+#![tactic(auto)]
+
 ghost use Rattle.std.specs.Prelude.{◌≡◌, ◌||◌, ℕ, ◌*◌, ◌^◌, ◌<◌, length, eqb};
 ghost use Rattle.marks.specs.Marks.{mark_at};
 

@@ -6,7 +6,7 @@ ghost use Rattle.numbers.specs.Leb128.{leb_of, leb_at, read_leb, above, under};
 use crate::wide;
 
 // A number that was read and the place after it; `Bad` where no shortest form of a 32-bit number stands.
-#[derive(Drop)]
+#[derive(Clone, Copy)]
 pub enum Leb128 {
     Value(u32, usize),
     Bad,

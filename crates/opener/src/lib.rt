@@ -3,6 +3,8 @@
 // Head, then blocks in order, each test where its bytes stand; a block has at least 20 bytes, so that reading ends with the bytes, whatever
 // number of blocks the head claims. specs/Opening.antt has the tests; that they are crate codec's `walk`, and so `parse`, is proved in
 // proofs/HeadLaws.antt and proofs/OpenLaws.antt.
+#![tactic(auto)]
+
 ghost use Rattle.std.specs.Prelude.{◌≡◌, ◌≤◌, length};
 ghost use Rattle.std.proofs.Math.Option.{none};
 ghost use Rattle.image.specs.Head.{head_size};

@@ -3,6 +3,8 @@
 //
 // The entry points take a lent slice of records; who has plain values only calls these functions. Each contract is the entry point's
 // equation, with the array for the slice.
+#![tactic(auto)]
+
 ghost use Rattle.std.specs.Prelude.{◌≡◌, []};
 ghost use Rattle.value.specs.Class.{class_number};
 ghost use Rattle.signal.specs.Content.{vcd, raw, real};
@@ -14,7 +16,7 @@ use recording::{Encoder, Outcome, Settings, SignalRecord, Stamp, Target};
 use value::states::States;
 
 // What a call answers, the state and the records after it.
-#[derive(Drop)]
+#[derive(Clone, Copy)]
 pub struct Kept {
     pub outcome: Outcome,
     pub records: [SignalRecord; 2],

@@ -3,6 +3,8 @@
 //
 // Standard input has one call to a line, in the form of crates/refused/stdin; each is answered by a line. stdout is what
 // oracle/recorder.py answers to the same sheet.
+#![tactic(auto)]
+
 mod calls;
 mod records;
 
@@ -65,7 +67,7 @@ fn make(
 }
 
 // The records that the program owns.
-#[derive(Drop)]
+#[derive(Clone, Copy)]
 struct Owned {
     records: [SignalRecord; 2],
 }

@@ -3,3 +3,4 @@
 //
 // Here stand the definitions, specs/Packed.antt and specs/Raw.antt, and their laws; that packing and unpacking are inverse is proved in
 // proofs/PackedLaws.antt. The code is in `packed_symbols`, `packed_class` and `packed_raw`.
+#![tactic(auto)]

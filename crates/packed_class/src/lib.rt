@@ -2,6 +2,8 @@
 // signal/value.rs.
 //
 // The contracts cite specs/Packed.antt of the crate packed; the largest class, byte by byte, is in proofs/ByteLaws.antt.
+#![tactic(auto)]
+
 ghost use Rattle.std.specs.Prelude.{◌≡◌, ◌-◌, ◌*◌, ◌%◌, ◌^◌, ◌≤◌, ◌<◌, length, eqb};
 ghost use Rattle.lists.specs.Choice.{pick};
 ghost use Rattle.value.specs.Class.{class_number, bits_of, largest_class, min_states};

@@ -1,6 +1,8 @@
 // Raw values: symbols that are packed already, in a class that the caller claims. Document 01, 'Symbol and value'.
 //
 // The contracts cite specs/Raw.antt of the crate packed. `decode_raw_change` has no `requires`: a bad value is an answer.
+#![tactic(auto)]
+
 ghost use Rattle.std.specs.Prelude.{◌≡◌, ◌<◌, ◌≤◌, length};
 ghost use Rattle.value.specs.Class.{class_number};
 ghost use Rattle.packed.specs.Packed.{packed_length, unpacked};

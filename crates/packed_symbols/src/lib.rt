@@ -2,6 +2,8 @@
 // after wellen's signal/value.rs.
 //
 // The contracts cite specs/Packed.antt of the crate packed.
+#![tactic(auto)]
+
 ghost use Rattle.std.specs.Prelude.{◌≡◌, ◌*◌, ◌/◌, ◌%◌, ◌^◌, ◌≤◌, ◌<◌, length};
 ghost use Rattle.std.proofs.lemmas.List.Edits.{sets};
 ghost use Rattle.value.specs.Class.{class_number, bits_of};

@@ -3,6 +3,8 @@
 //
 // Here stand the definitions, specs/Notation.antt (which symbols) and specs/Number.antt (the number of which the packed bytes are the digits), with
 // their laws. The code is in `packer_copy`, `packer_letters` and `packer_convert`, and in `packer_pack`, which calls them.
+#![tactic(auto)]
+
 ghost use Rattle.std.specs.Prelude.{◌≡◌, ◌+◌, ◌*◌, ◌^◌, ◌<◌};
 ghost use Rattle.value.specs.Class.{class_number, bits_of};
 
@@ -11,7 +13,7 @@ use value::states::States;
 use value::symbol::Bit;
 
 // How the symbols of a vector stand in bytes: as VCD text without its prefix, to be extended to the left, or packed in a class.
-#[derive(Drop)]
+#[derive(Clone, Copy)]
 pub enum Notation {
     Ascii,
     Packed(States),

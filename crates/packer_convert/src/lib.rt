@@ -1,4 +1,6 @@
 // The last bytes of a vector given packed in another class, as `packer_letters` has them of a text. The contracts cite packer/specs/Number.antt.
+#![tactic(auto)]
+
 ghost use Rattle.std.specs.Prelude.{◌≡◌, ◌+◌, ◌*◌, ◌≤◌, length};
 ghost use Rattle.std.proofs.lemmas.List.Edits.{sets};
 ghost use Rattle.value.specs.Class.{class_number, bits_of};

@@ -1,4 +1,6 @@
 // A packed value that is in the class already: its bytes are copied. The contracts cite packed/specs/Packed.antt.
+#![tactic(auto)]
+
 ghost use Rattle.std.specs.Prelude.{◌≡◌, ◌+◌, ◌%◌, ◌^◌, ◌≤◌, ◌<◌, length};
 ghost use Rattle.std.proofs.lemmas.List.Edits.{sets};
 ghost use Rattle.value.specs.Class.{class_number};

@@ -1,6 +1,8 @@
 // The symbols of a vector given as VCD text: the one at a place, extended to the left, and the last bytes, whose symbols all stand in the text, by
 // a loop that has nothing to ask. Document 01, 'Symbol and value', after the end of wellen's vcd.rs; the left extension is IEEE 1364's, and
 // document 02's (h). The contracts cite specs/Vcd.antt of the crate vcd, and specs/Number.antt of packer.
+#![tactic(auto)]
+
 ghost use Rattle.std.specs.Prelude.{◌≡◌, true, ◌+◌, ◌*◌, ◌^◌, ◌≤◌, ◌<◌, length, get_or};
 ghost use Rattle.std.proofs.lemmas.List.Edits.{sets};
 ghost use Rattle.lists.specs.Choice.{is_some, or_empty};

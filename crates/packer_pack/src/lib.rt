@@ -5,6 +5,8 @@
 // in the class already is copied (`packer_copy`); else each byte is made by itself, from the symbols that lie in it (specs/Number.antt there). The last bytes,
 // whose symbols all stand in the source, are made by a loop for each notation that has nothing to ask (`packer_letters`, `packer_convert`); those before
 // them symbol by symbol, or all at once where they are a short text's extension.
+#![tactic(auto)]
+
 ghost use Rattle.std.specs.Prelude.{◌≡◌, true, ◌+◌, ◌*◌, ◌≤◌, ◌<◌, length, get_or};
 ghost use Rattle.std.proofs.lemmas.List.Edits.{sets};
 ghost use Rattle.value.specs.Class.{class_number, class_of_all, all_symbols};

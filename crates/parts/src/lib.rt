@@ -2,6 +2,8 @@
 //
 // They are read from the last signal to the first, since a part ends where the next one begins. specs/Parts.antt says what is found so, and
 // proofs/PartsLaws.antt that it is what crate codec's `lengths` and `walked_part` find.
+#![tactic(auto)]
+
 ghost use Rattle.std.specs.Prelude.{◌≡◌, ◌+◌, ◌*◌, ◌≤◌, ◌<◌, length, drop};
 ghost use Rattle.lists.specs.Choice.{is_some};
 ghost use Rattle.signal.specs.Kind.{top_limit};
@@ -15,7 +17,7 @@ use reading::changes::is_stream;
 use signal::kind::SignalEncoding;
 
 // Where the parts of the signals read so far begin, or no parts.
-#[derive(Drop)]
+#[derive(Clone, Copy)]
 pub enum PartStart {
     From(usize),
     Wrong,

@@ -4,6 +4,8 @@
 // the call is completed (`carry::complete`). A start is decided (`start::begin`), then a loop over the records follows. No function here
 // sees the records, so that the loops can go over records stored in any way. What is answered and the state after a call are made in crate
 // plan_state. proofs/CarryLaws.antt and proofs/BeginLaws.antt have that the steps together are what recording/specs/Step.antt says.
+#![tactic(auto)]
+
 pub mod carry;
 pub mod finish;
 pub mod start;
@@ -12,7 +14,7 @@ pub mod time;
 use recording::Outcome;
 
 // What a start comes to: turns over the records follow.
-#[derive(Drop)]
+#[derive(Clone, Copy)]
 pub struct Begun {
     pub outcome: Outcome,
     pub turns: usize,

@@ -1,5 +1,7 @@
 // What each call of crate plan answers and makes of the state, decided on values; what a time or a finish comes to (`plan`), and where a time
 // stands (`way`). Document 01, 'Recording'. The contracts cite specs/Outcomes.antt.
+#![tactic(auto)]
+
 pub mod plan;
 pub mod way;
 

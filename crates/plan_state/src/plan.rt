@@ -6,7 +6,7 @@ use image::layout::data_start;
 use recording::{Encoder, Outcome};
 
 // All that the loop and the last step need to know.
-#[derive(Drop)]
+#[derive(Clone, Copy)]
 pub struct Plan {
     pub outcome: Outcome,
     // The state before the call.

@@ -4,7 +4,7 @@ ghost use Rattle.recording.specs.Calls.{way_of};
 ghost use Rattle.plan_state.specs.Way.{way_in};
 
 // A time against the last one taken; the first is above.
-#[derive(Drop)]
+#[derive(Clone, Copy)]
 pub enum Way {
     Above,
     Equal,

@@ -3,6 +3,8 @@
 // Any bytes may be given: no function has a `requires`. Each tests once that the opener accepts them; a caller that reads much of one image
 // tests with `open` and calls the functions of crates walk_part, walk_table, loader and cursor, which ask for an accepted one. The contracts cite
 // loaded/specs.
+#![tactic(auto)]
+
 ghost use Rattle.std.specs.Prelude.{◌≡◌};
 ghost use Rattle.loaded.specs.Opener.{stream_of};
 ghost use Rattle.loaded.specs.Reader.{load_reply, load_after, load_of, table_reply, table_after, table_of, cursor_reply, cursor_after, cursor_of};

@@ -9,7 +9,7 @@ use stream_read::read_change;
 use value::states::States;
 
 // The index of a change and the place after it, or no change that fits.
-#[derive(Drop)]
+#[derive(Clone, Copy)]
 pub enum NextChange {
     At(u32, usize),
     Wrong,

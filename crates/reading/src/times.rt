@@ -5,7 +5,7 @@ ghost use Rattle.reading.specs.Times.{starts_at, rising_at, times_at};
 use numbers::little_endian::get_u64;
 
 // The last time, or no times of a block.
-#[derive(Drop)]
+#[derive(Clone, Copy)]
 pub enum Times {
     Last(u64),
     Wrong,

@@ -2,6 +2,8 @@
 // back'; document 02, (j) and (k).
 //
 // What each call does to them is defined in specs/Step.antt; the refusals by tests stand in specs/Refusals.antt.
+#![tactic(auto)]
+
 ghost use Rattle.std.specs.Prelude.{◌≡◌};
 ghost use Rattle.recording.specs.Memory.{record_of};
 ghost use Rattle.recording.specs.Refusals.{no_probe, bad_record};
@@ -22,7 +24,7 @@ pub const EDITION_2: u32 = 2;
 pub const LAST_PROBE: u32 = 1;
 
 // A signal's kind, the time index of its last change in the block (0 if it has none), its top class, and the probe that sends its changes.
-#[derive(Drop)]
+#[derive(Clone, Copy)]
 pub struct SignalRecord {
     pub kind: SignalEncoding,
     pub index: u32,
@@ -31,21 +33,21 @@ pub struct SignalRecord {
 }
 
 // Of one probe: its changes are skipped since a time that it sent went back; how many were, which stays at its top.
-#[derive(Drop)]
+#[derive(Clone, Copy)]
 pub struct ProbeSkip {
     pub on: bool,
     pub count: u32,
 }
 
 // Of both probes.
-#[derive(Drop)]
+#[derive(Clone, Copy)]
 pub struct Skips {
     pub zero: ProbeSkip,
     pub one: ProbeSkip,
 }
 
 // A recording between two calls. Buffers are lent at each call; here is how much of each is used.
-#[derive(Drop)]
+#[derive(Clone, Copy)]
 pub struct Encoder {
     pub closed: bool,
     // B: how many times a block holds at most.
@@ -67,7 +69,7 @@ pub struct Encoder {
 
 // What a call is given beside lent memory and a value stands in a struct, so that a number more is a field and no function between has another
 // parameter. A start is given B, S and the edition of the skip rule.
-#[derive(Drop)]
+#[derive(Clone, Copy)]
 pub struct Settings {
     pub limit: u32,
     pub signals: u32,
@@ -75,21 +77,21 @@ pub struct Settings {
 }
 
 // A time is given the probe that sends it, and when it was.
-#[derive(Drop)]
+#[derive(Clone, Copy)]
 pub struct Stamp {
     pub sender: u32,
     pub time: u64,
 }
 
 // A change is given the probe that sends it, and its signal.
-#[derive(Drop)]
+#[derive(Clone, Copy)]
 pub struct Target {
     pub sender: u32,
     pub signal: SignalRef,
 }
 
 // What a call of a recording answers.
-#[derive(Drop)]
+#[derive(Clone, Copy)]
 pub enum Answer {
     Started,
     Taken,
@@ -104,14 +106,14 @@ pub enum Answer {
 }
 
 // What a call answers, and the state after it.
-#[derive(Drop)]
+#[derive(Clone, Copy)]
 pub struct Outcome {
     pub answer: Answer,
     pub state: Encoder,
 }
 
 // The lengths of the memory that is lent to a call, but for the work buffer's.
-#[derive(Drop)]
+#[derive(Clone, Copy)]
 pub struct Lengths {
     pub records: usize,
     pub times: usize,

@@ -1,4 +1,6 @@
 // Replays recordings that the Rust answered (its stdin, and its stdout). None has a refusal.
+#![tactic(auto)]
+
 fn main() {
     sheet::tests::replay(0);
 }

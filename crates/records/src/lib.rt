@@ -1,6 +1,8 @@
 // The records of a recording's signals, in a lent slice of structs. Document 01, 'Stream of one signal'.
 //
 // Each function moves whole records; what is decided of one record stands in functions by value.
+#![tactic(auto)]
+
 ghost use Rattle.std.specs.Prelude.{◌≡◌, ◌||◌, get_or, set};
 ghost use Rattle.recording.specs.Memory.{record_of};
 ghost use Rattle.recording.specs.Refusals.{bad_record, any_bad};

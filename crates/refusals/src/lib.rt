@@ -3,6 +3,8 @@
 //
 // Each function answers the number of the first refusal that holds, 0 where none does; the contracts cite the tables of
 // recording/specs/Refusals.antt.
+#![tactic(auto)]
+
 ghost use Rattle.std.specs.Prelude.{◌≡◌, false, drop};
 ghost use Rattle.recording.specs.Memory.{first};
 ghost use Rattle.recording.specs.Refusals.{start_tests, state_tests};

@@ -15,7 +15,7 @@ use text::{before, byte_at, print, print_bytes, print_number, word};
 use value::states::States;
 
 // The top class and how many stream bytes were written.
-#[derive(Drop)]
+#[derive(Clone, Copy)]
 enum Written {
     Change(u8, usize),
     Bad,

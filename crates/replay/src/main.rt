@@ -1,5 +1,7 @@
 // Replays questions of single values: standard input has one to a line, as in oracle/README.md, and `stdout` the answers: the Rust's, or, where u, w or -
 // extends a value, at which the Rust panics, those of oracle/model.py.
+#![tactic(auto)]
+
 mod answer;
 mod question;
 

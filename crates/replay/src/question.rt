@@ -4,7 +4,7 @@ use text::number::number_32;
 use text::{byte_at, word};
 
 // The first letter, the parts that are numbers, and which word is HEX.
-#[derive(Drop)]
+#[derive(Clone, Copy)]
 pub struct Question {
     pub form: u8,
     pub kind: SignalEncoding,

@@ -1,5 +1,7 @@
 // Calls of a sheet, made on the recorder and answered: what the programs that run a sheet have in common. What a line says is read by the
 // crate line; which lines a program takes beside the calls, it says itself. The module tests has a whole run for the test programs.
+#![tactic(auto)]
+
 mod alter;
 pub mod answer;
 mod calls;

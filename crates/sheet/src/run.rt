@@ -145,7 +145,7 @@ pub fn state_of(run: &Run) -> Encoder {
 
 // What a call is given beside lent memory and a value: a start its settings, a time its stamp, a change its target and a number, the claim of a
 // raw value or the bits of a real. Of these a call takes its own.
-#[derive(Drop)]
+#[derive(Clone, Copy)]
 pub struct Given {
     pub settings: Settings,
     pub stamp: Stamp,

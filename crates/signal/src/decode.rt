@@ -3,7 +3,7 @@ use value::states::States;
 use value::symbol::Bit;
 
 // What a change says, but for the symbols of a wider vector, of which the class is here.
-#[derive(Drop)]
+#[derive(Clone, Copy)]
 pub enum ChangeValue {
     Event,
     SingleBit(Bit),
@@ -12,7 +12,7 @@ pub enum ChangeValue {
 }
 
 // The value and the class that the top class is raised to at least, or a refusal's number.
-#[derive(Drop)]
+#[derive(Clone, Copy)]
 pub enum DecodedChange {
     Change(ChangeValue, States),
     Refused(u32),

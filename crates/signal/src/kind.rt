@@ -3,7 +3,7 @@ ghost use Rattle.std.specs.Prelude.{◌≡◌};
 ghost use Rattle.signal.specs.Kind.{width_of, absent, known_kind};
 
 // A vector of width 0 is an event.
-#[derive(Drop)]
+#[derive(Clone, Copy)]
 pub enum SignalEncoding {
     BitVector(u32),
     Real,

@@ -2,9 +2,11 @@
 //
 // Here stand the definitions, specs/Kind.antt, specs/Content.antt and specs/Answer.antt, which reads the answers' enums, with their laws, and the types. The
 // code that decodes is in `signal_decode`.
+#![tactic(auto)]
+
 pub mod decode;
 pub mod kind;
 
 // A signal by its number.
-#[derive(Drop)]
+#[derive(Clone, Copy)]
 pub struct SignalRef(pub u32);

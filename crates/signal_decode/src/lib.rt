@@ -2,6 +2,8 @@
 // 01, 'Turned back'.
 //
 // The contracts cite specs/Content.antt of the crate signal, through specs/Answer.antt there, which reads the answers' enums. No function has a `requires`.
+#![tactic(auto)]
+
 ghost use Rattle.std.specs.Prelude.{◌≡◌};
 ghost use Rattle.value.specs.Class.{class_number};
 ghost use Rattle.signal.specs.Content.{decode, event_says, vcd, raw, real};

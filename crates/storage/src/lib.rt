@@ -2,6 +2,8 @@
 //
 // The contracts cite specs/Storage.antt; that every number is a record, and no two the same, is proved in
 // proofs/StorageLaws.antt. An index above 5,592,404 has not a number for each class; a recording's are below 65,535.
+#![tactic(auto)]
+
 ghost use Rattle.std.specs.Prelude.{◌≡◌, get_or, set};
 ghost use Rattle.recording.specs.Memory.{record_of};
 ghost use Rattle.recording.specs.Refusals.{any_bad};

@@ -6,7 +6,7 @@ pub const MAX_DELTA: u32 = 65534;
 
 // The index less the one before, the value and the place after the change. A change's bytes are its number and then its value
 // (proofs/StreamTrip.antt: written-read), so a wider vector's packed bytes end at that place.
-#[derive(Drop)]
+#[derive(Clone, Copy)]
 pub enum ReadChange {
     Change(u32, ChangeValue, usize),
     Bad,

@@ -1,5 +1,7 @@
 // One change out of a stream that was accepted: nothing of it is judged again. `known_change` asks that a change stands there, and
 // answers the same as `read_change` of the crate stream_read. The contracts cite stream/specs/Answer.antt.
+#![tactic(auto)]
+
 ghost use Rattle.std.specs.Prelude.{◌≡◌, ◌≤◌, length, drop};
 ghost use Rattle.stream.specs.Stream.{value_after};
 ghost use Rattle.stream.specs.Answer.{read_as, change_at, IsChange};

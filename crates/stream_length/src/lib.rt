@@ -2,6 +2,8 @@
 // wellen's SignalEncoder.
 //
 // The contracts cite specs/Answer.antt of the crate stream.
+#![tactic(auto)]
+
 ghost use Rattle.std.specs.Prelude.{◌≡◌, ◌≤◌, ◌<◌};
 ghost use Rattle.stream.specs.Stream.{max_delta};
 ghost use Rattle.stream.specs.Answer.{change_length, change_number, tail_length};

@@ -2,6 +2,8 @@
 // wellen's load_ functions.
 //
 // The contracts cite specs/Stream.antt and specs/Answer.antt of the crate stream; `read_change` has no `requires`.
+#![tactic(auto)]
+
 ghost use Rattle.std.specs.Prelude.{◌≡◌, ◌+◌, ◌/◌, ◌%◌, ◌≤◌, ◌<◌, length, drop};
 ghost use Rattle.value.specs.Class.{class_number};
 ghost use Rattle.packed.specs.Packed.{packed_length};

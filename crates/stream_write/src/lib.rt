@@ -1,6 +1,8 @@
 // One change as stream bytes. Its length is known before a byte is written (`stream_length`). Document 01, 'Stream of one signal', after wellen's SignalEncoder.
 //
 // The contracts cite specs/Stream.antt (the bytes) and specs/Answer.antt (what was said) of the crate stream.
+#![tactic(auto)]
+
 ghost use Rattle.std.specs.Prelude.{◌≡◌, true, ◌∷◌, [], ◌+◌, ◌≤◌, ◌<◌, length};
 ghost use Rattle.std.proofs.lemmas.List.Edits.{sets};
 ghost use Rattle.value.specs.Class.{class_number, class_of_all, all_symbols};

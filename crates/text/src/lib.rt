@@ -1,4 +1,6 @@
 // Text in byte slices, and what is printed, for the programs. Past the end stand zeros, and parts end where the slice does.
+#![tactic(auto)]
+
 pub mod number;
 
 ghost use Rattle.std.specs.Prelude.{◌≡◌, ◌<◌, length};

@@ -3,7 +3,7 @@ use crate::states::States;
 use crate::symbol::Bit;
 
 // After wellen's VcdBitVecChange, for raw values too. `MultiBit` carries the value's class.
-#[derive(Drop)]
+#[derive(Clone, Copy)]
 pub enum BitVecChange {
     SingleBit(Bit),
     MultiBit(States),

@@ -8,7 +8,7 @@ use crate::states::States;
 
 // An entry's value, after wellen's SignalValueRef: an event, symbols with their class (the symbols stand in a buffer of the
 // caller's), or a real.
-#[derive(Drop)]
+#[derive(Clone, Copy)]
 pub enum SignalValue {
     Event,
     BitVec(States),
@@ -16,7 +16,7 @@ pub enum SignalValue {
 }
 
 // The bits of a real stand beside it, since a NaN's bits cannot be told from its f64; 0 for the other values.
-#[derive(Drop)]
+#[derive(Clone, Copy)]
 pub struct Entry {
     pub value: SignalValue,
     pub bits: u64,

@@ -9,7 +9,7 @@ ghost use Rattle.value.specs.Class.{class_number, states_of, class_of, symbol_cl
 use crate::symbol::Bit;
 
 // Document 01's class.
-#[derive(Drop)]
+#[derive(Clone, Copy)]
 pub enum States {
     Two,
     Four,
@@ -17,7 +17,7 @@ pub enum States {
 }
 
 // A class, or that there is none.
-#[derive(Drop)]
+#[derive(Clone, Copy)]
 pub enum MaybeStates {
     Some(States),
     None,

@@ -3,11 +3,11 @@ ghost use Rattle.std.specs.Prelude.{◌≡◌};
 ghost use Rattle.value.specs.Symbol.{symbol_of, is_digit, maybe_bit, or_number};
 
 // A symbol's number: 0 1 x z h u w l - are 0 to 8.
-#[derive(Drop)]
+#[derive(Clone, Copy)]
 pub struct Bit(pub u8);
 
 // A symbol, or that there is none.
-#[derive(Drop)]
+#[derive(Clone, Copy)]
 pub enum MaybeBit {
     Some(Bit),
     None,

@@ -3,3 +3,4 @@
 //
 // Here stand the definitions, specs/Vcd.antt, with their laws (for callers in proofs/VcdLaws.antt) and worked values (proofs/Cases.antt). The code is in
 // `vcd_text` and `vcd_decode`, and that of the left extension in `packer_letters`.
+#![tactic(auto)]

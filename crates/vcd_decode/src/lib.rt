@@ -1,6 +1,8 @@
 // What a VCD value says to a vector. Document 01, 'Symbol and value', after the end of wellen's vcd.rs; u, w and - extend by document 02, (h).
 //
 // The contracts cite specs/Vcd.antt of the crate vcd. `decode_vcd_bit_vec_change` has no `requires`: a bad value is an answer.
+#![tactic(auto)]
+
 ghost use Rattle.std.specs.Prelude.{◌≡◌, true, ◌<◌};
 ghost use Rattle.lists.specs.Choice.{is_some};
 ghost use Rattle.value.specs.Change.{change_of};

@@ -2,6 +2,8 @@
 // vcd.rs; the lenient prefixes are wellen's.
 //
 // The contracts cite specs/Vcd.antt of the crate vcd.
+#![tactic(auto)]
+
 ghost use Rattle.std.specs.Prelude.{◌≡◌};
 ghost use Rattle.vcd.specs.Vcd.{without_b, without0b, text_of};
 

@@ -1,5 +1,7 @@
 // Published values, through the code: LEB128 (DWARF's examples, 0, 624485 and the largest 32-bit number), little-endian numbers, and values
 // that a signal takes or refuses. The file `stdout` was written by hand, from the documents.
+#![tactic(auto)]
+
 use libc::STDOUT_FILENO;
 use numbers::leb128::{Leb128, get_leb128, leb128_len, put_leb128};
 use numbers::little_endian::{get_u32, get_u64, put_u32, put_u64};

@@ -3,5 +3,7 @@
 //
 // Every function asks that the opener accepts the bytes; an entry point tests that once. The image that the bytes are is `image_in`
 // (specs/Walk.antt), and what is read of it is what the definitions of `loaded` say. Laws are in proofs/.
+#![tactic(auto)]
+
 pub mod block;
 pub mod head;

@@ -1,4 +1,6 @@
 // The stream of a signal in a block of an accepted image. Document 01, 'Block and image'. The contracts cite walk/specs/Walk.antt.
+#![tactic(auto)]
+
 ghost use Rattle.std.specs.Prelude.{◌≡◌, ℕ, suc, ◌<◌, get_or};
 ghost use Rattle.image.specs.Block.{offsets_from};
 ghost use Rattle.loaded.specs.Opener.{stream_of};
@@ -10,7 +12,7 @@ use walk::block::{block_start, next_block, times_in};
 use walk::head::{block_count, signal_count};
 
 // Where a stream begins and ends, and the top class that its block gives it. A signal without changes has no bytes, and class 0.
-#[derive(Drop)]
+#[derive(Clone, Copy)]
 pub struct StreamPart {
     pub from: usize,
     pub to: usize,

@@ -1,4 +1,6 @@
 // The combined table of an accepted image. Document 01, 'Loaded signal'. The contracts cite walk/specs/Walk.antt and loaded/specs/Reader.antt.
+#![tactic(auto)]
+
 ghost use Rattle.std.specs.Prelude.{◌≡◌, [], ℕ, ◌+◌, ◌-◌, ◌≤◌, length, drop};
 ghost use Rattle.std.proofs.lemmas.List.Edits.{sets};
 ghost use Rattle.codec.specs.Ends.{end_of};

@@ -2,6 +2,8 @@
 // number below 2^64.
 //
 // The text is the crate cursor_text's; its contract cites specs/At.antt there. What a number is stands in the crate digits.
+#![tactic(auto)]
+
 ghost use Rattle.std.specs.Prelude.{◌≤◌, length};
 ghost use Rattle.cursor_text.specs.At.{at_limit};
 

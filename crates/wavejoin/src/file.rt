@@ -1,7 +1,7 @@
 // A file that an argument names, read whole.
 
 // What reading a file answers.
-#[derive(Drop)]
+#[derive(Clone, Copy)]
 pub enum Input {
     // So many bytes stand at the start of the buffer; the file ends there, or the buffer does.
     Bytes(usize),

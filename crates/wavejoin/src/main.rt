@@ -2,6 +2,8 @@
 // `refused N` instead, and where a file cannot be read, or there are not two arguments, its usage.
 //
 // The join is the crate join's; the contract of `join_files` cites specs/Files.antt.
+#![tactic(auto)]
+
 mod file;
 
 ghost use Rattle.std.specs.Prelude.{◌≡◌};

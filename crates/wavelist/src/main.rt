@@ -1,4 +1,6 @@
 // Prints the listing of the image on standard input. Document 01, 'Bench sheet'.
+#![tactic(auto)]
+
 ghost use Rattle.std.specs.Prelude.{◌≤◌, length};
 ghost use Rattle.listing_text.specs.Listing.{listing_limit};
 

@@ -2,6 +2,8 @@
 // the image's bytes alone.
 //
 // What a line says is read by the crate line; the calls are made by the crate sheet.
+#![tactic(auto)]
+
 mod lines;
 
 use libc::STDIN_FILENO;

@@ -1,4 +1,6 @@
 // The work buffer of a recording: the changes since the last cut, one record each. Document 01, 'Recording'.
+#![tactic(auto)]
+
 ghost use Rattle.std.specs.Prelude.{◌≡◌, true, List, ◌∷◌, ℕ, ◌+◌, ◌-◌, ◌≤◌, length};
 ghost use Rattle.lists.specs.Choice.{is_some};
 ghost use Rattle.marks.specs.Marks.{mark_at};
@@ -13,7 +15,7 @@ use numbers::little_endian::get_u32;
 const WINDOW: u64 = 65536;
 
 // How many data bytes the block of some work has, or that it does not divide into records.
-#[derive(Drop)]
+#[derive(Clone, Copy)]
 pub enum Measured {
     Data(u64),
     Damaged,
@@ -21,7 +23,7 @@ pub enum Measured {
 
 // What one pass over the work finds: the stream bytes of all records and how many signals of a window have some, or that it does not divide
 // into records.
-#[derive(Drop)]
+#[derive(Clone, Copy)]
 enum Scanned {
     Sums(u64, u64),
     Damaged,
