@@ -1,0 +1,17 @@
+-- The largest class says the class of symbols, or that one is none (`least-found`).
+use mathlib.Core.Path.{sym, ap, ◌∙◌}
+use Rattle.value.specs.Class.{class_number, states_or_none}
+use Rattle.value.proofs.ClassLaws.{least-found}
+use Rattle.packed.specs.Packed.{unpacked}
+use Rattle.packed.proofs.PackedLaws.{two-least}
+use Rattle.packed_class.proofs.find_min_states.Goals as goal
+
+pub returns-then-number-eq0 : goal.returns-then-number-eq0
+returns-then-number-eq0 c =
+    let a = c.args in
+    sym (two-least a.width (class_number a.states) a.bytes.now (sym c.number.ensures ∙ c.if-number-eq0.true))
+
+pub returns : goal.returns
+returns c =
+    let a = c.args in
+    c.states_or_none.ensures ∙ ap states_or_none c.class_of.ensures ∙ least-found (unpacked a.width (class_number a.states) a.bytes.now)

@@ -1,0 +1,14 @@
+-- `with` meets its contract: by the sender.
+-- Assumes nothing.
+use mathlib.Core.Path.{refl}
+use borrow.Author.Tests.{eq-eqb, ne_eqb}
+use Rattle.recording.specs.State.{with_skip}
+use Rattle.recording.proofs.Skips.with.Goals as goal
+
+pub returns-then-sender-eq0 : goal.returns-then-sender-eq0
+unfolding with_skip
+returns-then-sender-eq0 c = rw (eq-eqb _ _ c.if-sender-eq0.true) refl
+
+pub returns : goal.returns
+unfolding with_skip
+returns c = rw (ne_eqb _ _ c.if-sender-eq0.false) refl

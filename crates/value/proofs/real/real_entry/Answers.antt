@@ -1,0 +1,6 @@
+use mathlib.Core.Path.{refl}
+use borrow.Author.Rules.{rules}
+use Rattle.value.proofs.real.real_entry.Goals as goal
+
+pub returns : goal.returns
+returns c = rw c.real_of.ensures refl
