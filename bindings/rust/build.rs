@@ -1,4 +1,4 @@
-// The static library that `rt staticlib interface` writes; WEJUMO_LIB names another folder that holds it.
+// The static library that `bindings/library` builds; WEJUMO_LIB names another folder that holds it.
 use std::{env, path::PathBuf};
 
 fn main() {
