@@ -142,10 +142,11 @@ moved_at (r ∷ rs) ss s g e b =
     go : Dec (g ≡ r.signal)
         → advance (get_or (advanced ss r.signal r.bytes) g empty) (gather g rs) ≡ advance (get_or ss g empty) (gather g (r ∷ rs))
     go (yes q) =
-        rw (q, get_or-set_same ss r.signal (next_slot ss r.signal r.bytes) empty (omega (arith, b.0)), gather-own r rs)
-        (advance-more (get_or ss r.signal empty) r.bytes (gather r.signal rs))
+        rw (q, get_or-set_same ss r.signal (next_slot ss r.signal r.bytes) empty (omega (arith, b.0)))
+        (advance-more (get_or ss r.signal empty) r.bytes (gather r.signal rs) ∙ ap (advance (get_or ss r.signal empty)) (sym (gather-own r rs)))
     go (no n) =
-        rw (get_or-set_other ss r.signal g (next_slot ss r.signal r.bytes) empty n, gather-other g r rs (λ q. n (sym q))) refl
+        rw (get_or-set_other ss r.signal g (next_slot ss r.signal r.bytes) empty n)
+        (ap (advance (get_or ss g empty)) (sym (gather-other g r rs (λ q. n (sym q)))))
 
 pub length_moved : (is : List Item) (ss : List Slot) → length (moved is ss) ≡ length ss
 unfolding moved

@@ -4,9 +4,10 @@
 use Prim.Native.Nat.{ℕ, zero, suc, ◌-◌, ◌≤◌, ◌<◌}
 use mathlib.Core.Path.{◌≡◌, refl, sym, ap, ◌∙◌}
 use mathlib.Core.List.{List, [], ◌∷◌, ◌++◌, append_assoc, append-nil}
-use mathlib.Core.Option.{Option, none}
+use mathlib.Core.Option.{Option, some, none}
 use native.Mathlib.Omega.{arith}
 use lib.ListN.{length, get_or}
+use Rattle.lists.specs.Last.{last_or}
 use Rattle.signal.specs.declared.kind.SignalEncoding.{SignalEncoding}
 use Rattle.signal.specs.declared.kind.SignalEncoding.TheVariants.{Absent}
 use Rattle.stream.specs.Stream.{change_bytes}
@@ -80,13 +81,13 @@ module _ (limit : ℕ) (ks : List SignalEncoding) where
       → (n : ℕ) → n < length bs → BlockFits limit ks (get_or bs n past)
   blocks-each end [] past f n h = absurd (omega arith)
   blocks-each end (b ∷ bs) past f zero h = f.1.0
-  blocks-each end (b ∷ bs) past f (suc n) h = blocks-each _ bs past f.1.1 n (omega arith)
+  blocks-each end (b ∷ bs) past f (suc n) h = blocks-each (some (last_or 0 b.times)) bs past f.1.1 n (omega arith)
 
   -- blocks, and others that start at or after their end
   pub blocks-join : (end : Option ℕ) (bs cs : List (Block (List Entry))) → BlocksFit limit ks end bs → BlocksFit limit ks (end_after end bs) cs → BlocksFit limit ks end (bs ++ cs)
   unfolding end_after
   blocks-join end [] cs f g = g
-  blocks-join end (b ∷ bs) cs f g = (f.0, (f.1.0, blocks-join _ bs cs f.1.1 g))
+  blocks-join end (b ∷ bs) cs f g = (f.0, (f.1.0, blocks-join (some (last_or 0 b.times)) bs cs f.1.1 g))
 
   -- the first block of an image may start anywhere
   pub blocks-first : (end : Option ℕ) (bs : List (Block (List Entry))) → BlocksFit limit ks end bs → BlocksFit limit ks none bs

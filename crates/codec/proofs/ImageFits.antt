@@ -10,6 +10,7 @@ use borrow.Author.Tests.{le-leb, leb-true, eq-eqb}
 use lib.ListN.{length, get_or, length-append, length-map}
 use Rattle.numbers.specs.LittleEndian.{le}
 use Rattle.numbers.proofs.LittleEndianLaws.{length-le}
+use Rattle.lists.specs.Last.{last_or}
 use Rattle.signal.specs.declared.kind.SignalEncoding.{SignalEncoding}
 use Rattle.signal.specs.declared.kind.SignalEncoding.TheVariants.{BitVector, Real, Absent}
 use Rattle.signal.specs.Kind.{known_kind, top_limit}
@@ -119,7 +120,7 @@ module _ (limit : ℕ) (ks : List SignalEncoding) (high : limit ≤ 65535) where
   blocks-fit end [] f h = refl
   blocks-fit end (b ∷ bs) f h =
       let e = length-append (block_bytes (streamed ks b)) (blocks_bytes ks bs) in
-      (block-fits b f.1.0 (omega arith), blocks-fit _ bs f.1.1 (omega arith))
+      (block-fits b f.1.0 (omega arith), blocks-fit (some (last_or 0 b.times)) bs f.1.1 (omega arith))
 
 -- every block has a byte
 pub blocks-count : (ks : List SignalEncoding) (bs : List (Block (List Entry))) → length bs ≤ length (blocks_bytes ks bs)

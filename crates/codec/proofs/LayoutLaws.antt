@@ -1,7 +1,7 @@
 -- Offsets and lengths are inverse, and those of a block are those of its parts.
 -- Assumes nothing.
 use Prim.Native.Nat.{ℕ, zero, suc, ◌+◌, ◌-◌, ◌≤◌, ◌<◌}
-use mathlib.Core.Path.{◌≡◌, refl, ap}
+use mathlib.Core.Path.{◌≡◌, refl, ap, ◌∙◌}
 use mathlib.Core.Bool.{Bool, true, false}
 use mathlib.Core.List.{List, [], ◌∷◌}
 use mathlib.Core.Option.{Option, some, none}
@@ -26,7 +26,7 @@ lengths-of a (none ∷ l) = rw (lengths-of a l) refl
 lengths-of a (some m ∷ l) =
     let e : a + (suc m + data_size l) ≡ a + suc m + data_size l = omega arith in
     let d : a + suc m - suc a ≡ m = omega arith in
-    rw (e, lengths-of (a + suc m) l, lt-ltb a (a + suc m) (omega arith), d) refl
+    ap (λ (n : ℕ). starting a (lengths n (offsets (a + suc m) l))) e ∙ rw (lengths-of (a + suc m) l, lt-ltb a (a + suc m) (omega arith), d) refl
 
 pub record Laying (n : ℕ) (os : List ℕ) (a : ℕ) (l : List (Option ℕ)) : Type 0 where
   pub same : offsets a l ≡ os

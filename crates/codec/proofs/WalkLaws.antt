@@ -62,7 +62,7 @@ module _ (limit : ℕ) (ks : List SignalEncoding) where
       → (walk_blocks limit ks (length bs) end).Ok bs
   unfolding walk_blocks repeat
   fits-walk end [] o f = refl
-  fits-walk end (b ∷ bs) o f = ((tested-walk limit ks end b (o.0, (f.0, f.1.0))).ok, fits-walk _ bs o.1 f.1.1)
+  fits-walk end (b ∷ bs) o f = ((tested-walk limit ks end b (o.0, (f.0, f.1.0))).ok, fits-walk (some (last_or 0 b.times)) bs o.1 f.1.1)
 
 pub walk-laws : Laws walk_form
 unfolding walk_form

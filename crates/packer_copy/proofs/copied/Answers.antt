@@ -1,16 +1,14 @@
 -- The bytes of the source, of which the first loses the bits above the symbols.
 use Prim.Native.Nat.{ℕ, ◌-◌, ◌*◌, ◌%◌, ◌^◌, ◌<◌}
-use mathlib.Core.Path.{◌≡◌, refl, ap, ap₂, ◌∙◌}
+use mathlib.Core.Path.{◌≡◌, refl, ap₂, ◌∙◌}
 use mathlib.Core.List.{List}
 use native.Mathlib.Nat.{mul-le-mul_left}
 use native.Mathlib.Numerals.{add-one}
 use native.Mathlib.Omega.{arith}
 use lib.ListN.{length, get_or, length-set}
-use lib.Seq.{length-sets}
 use Rattle.value.specs.Class.{class_number, bits_of}
 use Rattle.packed.specs.Packed.{packed_length}
 use Rattle.packer_copy.proofs.CopyLaws.{copy-full, copy-part}
-use borrow.Author.Rules.{rules}
 use Rattle.packer_copy.proofs.copied.Goals as goal
 use Rattle.packer_copy.proofs.copied.Goals.{Else-used-eq0}
 
@@ -32,7 +30,7 @@ returns-then-used-eq0 c =
     let n = t.bytes_required-count.ensures in
     let s = t in
     let a = s.args in
-    let full = copy-full a.width (class_number a.states) a.src.now (λ j. (t.shared_slice_known-1.given j).fits) s.requires.0
+    let full = copy-full a.width (class_number a.states) a.src.now (λ j. (t.shared_slice_known-1.given j).fits) s.requires.states_in_bounds
     (rw t.bits.ensures.0 at t.if-used-eq0.true) in
     (rw n at p.put_part.ensures.0, rw (full, ← n) p.put_part.ensures.1)
 
@@ -59,6 +57,6 @@ returns c =
     let k : ℕ = class_number a.states in
     let b : List ℕ = a.src.now in
     let h = part (goal.at.returns c).Else-used-eq0 in
-    let cut = copy-part a.width k b (λ j. (q.shared_slice_known-2-1.given j).fits) s.requires.0 h.1 in
+    let cut = copy-part a.width k b (λ j. (q.shared_slice_known-2-1.given j).fits) s.requires.states_in_bounds h.1 in
     let first = q.low_bits.ensures ∙ ap₂ (λ (i u : ℕ). get_or b (length b - i) 0 % 2 ^ (a.width * u % 8)) n e.bits.ensures.0 in
     (omega arith, p.put_part-2.ensures.1 ∙ rw (cut, add-one a.at, first, n) refl)

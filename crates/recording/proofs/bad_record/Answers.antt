@@ -1,7 +1,6 @@
 -- `bad_record` meets its contract: by its two tests.
 -- Assumes nothing.
 use mathlib.Core.Path.{refl, sym}
-use borrow.Author.Rules.{rules}
 use Rattle.recording.proofs.bad_record.Goals as goal
 
 pub returns : goal.returns

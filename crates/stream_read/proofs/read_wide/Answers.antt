@@ -3,7 +3,6 @@ use Prim.Native.Nat.{◌+◌, ◌-◌}
 use mathlib.Core.Path.{◌∙◌, sym}
 use lib.ListN.{drop}
 use native.Mathlib.Omega.{arith}
-use borrow.Author.Tests.{not-true, not-false}
 use Rattle.stream.proofs.ReadLaws.{wide-three, wide_short, wide-other, wide-own, class-is, size_is, own_is}
 use Rattle.stream_read.proofs.read_wide.Goals as goal
 
@@ -34,7 +33,7 @@ returns-then-not-own_class c =
     let o = c.own_class in
     wide-other a.s.now a.at a.v a.width p.requires.0 z.result o.result (size_is a.width a.v _ _ h x.ensures z.ensures)
     (own_is a.width a.v z.result (a.at + z.result - a.at) x.result o.result (drop a.at a.s.now) h x.ensures (omega arith) o.ensures)
-    (not-true _ c.if-not-own_class.true)
+    (c.if-not-own_class.true)
 
 pub returns : goal.returns
 returns c =
@@ -47,4 +46,4 @@ returns c =
     c.in_range.ensures
     ∙ wide-own a.s.now a.at a.v a.width p.requires.0 z.result o.result x.result (size_is a.width a.v _ _ h x.ensures z.ensures)
     (own_is a.width a.v z.result (a.at + z.result - a.at) x.result o.result (drop a.at a.s.now) h x.ensures (omega arith) o.ensures)
-    (not-false _ c.if-not-own_class.false) c.if-s-at.false p.requires.1 (class-is a.v x.result h x.ensures) (sym x.ensures)
+    (c.if-not-own_class.false) c.if-s-at.false p.requires.1 (class-is a.v x.result h x.ensures) (sym x.ensures)

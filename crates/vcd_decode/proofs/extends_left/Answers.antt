@@ -10,4 +10,4 @@ returns-in-104 c = sym (h-and-l-do-not _ (rw c.small_letter.ensures at c.in-104.
 pub returns-in_default : goal.returns-in_default
 returns-in_default c =
     let a = c.args in
-    sym (others-extend a.letter (search rules) c.requires (rw c.small_letter.ensures at c.in_default.rest.1))
+    sym (others-extend a.letter (search rules) c.requires (rw c.small_letter.ensures at c.in_default.in_default-own.rest.1))

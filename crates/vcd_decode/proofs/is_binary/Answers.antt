@@ -1,7 +1,6 @@
 -- The invariant: the letters so far, with those that follow, are the text's.
 use mathlib.Core.Path.{refl, sym, ◌∙◌}
 use borrow.Author.Rules.{rules}
-use borrow.Author.Tests.{not-true, not-false}
 use Rattle.vcd.proofs.SymbolsLaws.{digits-no, digits-yes, digits-all}
 use Rattle.vcd_decode.proofs.is_binary.Goals as goal
 
@@ -11,12 +10,12 @@ loop-i-init c = (search rules, refl)
 pub loop-i-preserved-then-not-digit : goal.loop-i-preserved-then-not-digit
 loop-i-preserved-then-not-digit c =
     let l = c.loop-i in
-    (search rules, digits-no l.all l.i _ c.loop-i-test.true (sym c.is_digit-digit.ensures ∙ not-true _ c.if-not-digit.true) l.invariant.1)
+    (search rules, digits-no l.all l.i _ c.loop-i-test.true (sym c.is_digit-digit.ensures ∙ c.if-not-digit.true) l.invariant.1)
 
 pub loop-i-preserved : goal.loop-i-preserved
 loop-i-preserved c =
     let l = c.loop-i in
-    (search rules, digits-yes l.all l.i _ c.loop-i-test.true (sym c.is_digit-digit.ensures ∙ not-false _ c.if-not-digit.false) l.invariant.1)
+    (search rules, digits-yes l.all l.i _ c.loop-i-test.true (sym c.is_digit-digit.ensures ∙ c.if-not-digit.false) l.invariant.1)
 
 pub returns : goal.returns
 returns c =

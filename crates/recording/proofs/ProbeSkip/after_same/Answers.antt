@@ -1,7 +1,6 @@
 -- `after_same` meets its contract: by the edition.
 -- Assumes nothing.
 use mathlib.Core.Path.{refl}
-use borrow.Author.Rules.{rules}
 use borrow.Author.Tests.{eq-eqb, ne_eqb}
 use Rattle.recording.specs.State.{skip_same}
 use Rattle.recording.proofs.ProbeSkip.after_same.Goals as goal

@@ -1,7 +1,6 @@
 -- `counted` meets its contract: the count stays at its top.
 -- Assumes nothing.
 use mathlib.Core.Path.{refl}
-use borrow.Author.Rules.{rules}
 use Rattle.recording.specs.State.{skip_counted}
 use Rattle.recording.proofs.CallsLaws.{counted-more, counted-top}
 use Rattle.recording.proofs.ProbeSkip.counted.Goals as goal

@@ -1,7 +1,6 @@
 -- `none` meets its contract: by that of a probe's.
 -- Assumes nothing.
 use mathlib.Core.Path.{refl}
-use borrow.Author.Rules.{rules}
 use Rattle.recording.proofs.Skips.none.Goals as goal
 
 pub returns : goal.returns

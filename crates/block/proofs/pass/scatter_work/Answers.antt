@@ -1,0 +1,109 @@
+-- The loop's invariant: the work from p on divides into records, and to take these gives what to take all of them gives. The measure is
+-- what is left of the work.
+-- Assumes nothing.
+use Prim.Native.Nat.{◌+◌, ◌-◌, ◌≤◌, ◌<◌}
+use mathlib.Core.Path.{◌≡◌, refl, sym, ◌∙◌}
+use native.Mathlib.Omega.{arith}
+use lib.ListN.{length, take, drop}
+use Rattle.work.proofs.WorkLaws.{Turn, turn, end}
+use Rattle.block.proofs.PassLaws.{record-inside, record-below, record-again, scatter-none, ScatterTurn, record-scatter}
+use Rattle.block.proofs.pass.scatter_work.Goals as goal
+use Rattle.block.proofs.pass.scatter_work.Goals.{In-loop-p, After-get_u32-n}
+
+-- the record at p
+at_turn : (c : goal.In-loop-p) → let l = c.loop-p in let a = c.args in
+    Turn l.invariant.0 a.signals l.p a.work.now l.invariant.1
+at_turn c = turn _ _ _ _ _ c.loop-p-test.true c.loop-p.invariant.3
+
+-- the same by what was read
+inside : (c : goal.After-get_u32-n) → let l = c.loop-p in
+    l.p + 8 + c.get_u32-n.result ≤ length c.args.work.now
+inside c = record-inside _ _ _ _ _ _ _ ((turn _ _ _ _ _ c.loop-p-test.true c.loop-p.invariant.3)) c.get_u32-g.ensures c.get_u32-n.ensures
+
+below : (c : goal.After-get_u32-n) → c.get_u32-g.result < c.args.signals
+below c = record-below _ _ _ _ _ _ _ ((turn _ _ _ _ _ c.loop-p-test.true c.loop-p.invariant.3)) c.get_u32-g.ensures c.get_u32-n.ensures
+
+scattered : (c : goal.After-get_u32-n) → let l = c.loop-p in let a = c.args in
+    ScatterTurn a.d l.invariant.1 ((turn _ _ _ _ _ c.loop-p-test.true c.loop-p.invariant.3)).rest c.get_u32-g.result c.get_u32-n.result (take c.get_u32-n.result (drop (l.p + 8) a.work.now)) l.tail
+scattered c =
+    let l = c.loop-p in
+    record-scatter _ _ _ _ _ _ _ _ ((turn _ _ _ _ _ c.loop-p-test.true c.loop-p.invariant.3)) c.get_u32-g.ensures c.get_u32-n.ensures l.tail l.invariant.5
+
+pub loop-p-init : goal.loop-p-init
+loop-p-init c = (_, _, omega arith, c.requires.1, refl, c.requires.2, refl)
+
+pub get_u32-g-requires : goal.get_u32-g-requires
+get_u32-g-requires c = omega (arith, (at_turn c).head)
+
+pub overflow_cast-g : goal.overflow_cast-g
+overflow_cast-g c = omega (arith, (at_turn (goal.at.overflow_cast-g c).In-loop-p).below, c.get_u32-g.ensures)
+
+pub overflow_add-p : goal.overflow_add-p
+overflow_add-p c = omega (arith, (at_turn (goal.at.overflow_add-p c).In-loop-p).head)
+
+pub get_u32-n-requires : goal.get_u32-n-requires
+get_u32-n-requires c = omega (arith, (at_turn (goal.at.get_u32-n-requires c).In-loop-p).head)
+
+pub overflow_add-bytes : goal.overflow_add-bytes
+overflow_add-bytes c = omega (arith, inside c)
+
+pub overflow_cast-p : goal.overflow_cast-p
+overflow_cast-p c = omega (arith, inside c)
+
+pub overflow_add-p-in-loop-p : goal.overflow_add-p-in-loop-p
+overflow_add-p-in-loop-p c = omega (arith, inside c)
+
+pub kept_for-to-requires : goal.kept_for-to-requires
+kept_for-to-requires c = omega (arith, below c, (scattered c).room)
+
+pub overflow_cast-to : goal.overflow_cast-to
+overflow_cast-to c = omega (arith, (scattered (goal.at.overflow_cast-to c).After-get_u32-n).fits, c.kept_for-to.ensures)
+
+pub overflow_add-d : goal.overflow_add-d
+overflow_add-d c = omega (arith, (scattered (goal.at.overflow_add-d c).After-get_u32-n).room, c.kept_for-to.ensures)
+
+pub overflow_cast-n : goal.overflow_cast-n
+overflow_cast-n c = omega (arith, inside (goal.at.overflow_cast-n c).After-get_u32-n)
+
+pub copy_bytes-requires : goal.copy_bytes-requires
+copy_bytes-requires c = (omega (arith, (scattered (goal.at.copy_bytes-requires c).After-get_u32-n).room, c.kept_for-to.ensures), inside (goal.at.copy_bytes-requires c).After-get_u32-n)
+
+pub overflow_add-to : goal.overflow_add-to
+overflow_add-to c = omega (arith, (scattered (goal.at.overflow_add-to c).After-get_u32-n).fits, c.kept_for-to.ensures)
+
+pub keep_for-requires : goal.keep_for-requires
+keep_for-requires c =
+    omega (
+      arith,
+      below (goal.at.keep_for-requires c).After-get_u32-n,
+      (scattered (goal.at.keep_for-requires c).After-get_u32-n).room,
+      c.copy_bytes.auto.0,
+    )
+
+pub loop-p-smaller : goal.loop-p-smaller
+loop-p-smaller c = omega (arith, inside (goal.at.loop-p-smaller c).After-get_u32-n)
+
+pub loop-p-preserved : goal.loop-p-preserved
+loop-p-preserved c =
+    let d = c.keep_for in
+    let b = c.copy_bytes in
+    let k = c.kept_for-to in
+    let e = c in
+    let l = e.loop in
+    let t = at_turn (goal.at.loop-p-preserved c).In-loop-p in (
+      l.invariant.0 - 1,
+      t.rest,
+      inside (goal.at.loop-p-preserved c).After-get_u32-n,
+      record-again _ _ _ _ _ _ _ t e.get-u32.ensures e.get-u322.ensures,
+      d.auto.0 ∙ b.auto.0 ∙ l.invariant.4,
+      rw (d.ensures, b.ensures, k.ensures) (scattered (goal.at.loop-p-preserved c).After-get_u32-n).again,
+      rw (d.ensures, b.ensures, k.ensures) (sym (scattered (goal.at.loop-p-preserved c).After-get_u32-n).same ∙ l.invariant.6),
+    )
+
+pub returns : goal.returns
+returns c =
+    let l = c.loop-p in
+    let a = c.args in
+    let z : l.p ≡ length a.work.now = omega arith in
+    let n = end _ _ a.work.now l.invariant.1 (rw z at l.invariant.3) in
+    rw (← l.invariant.6, n) (sym (scatter-none _ _))
