@@ -2,7 +2,7 @@
 -- record's bytes do to the slots, and to the places and the data that these stand for.
 -- Assumes nothing.
 use Prim.Native.Nat.{ℕ, zero, suc, ◌+◌, ◌-◌, ◌≤◌, ◌<◌}
-use mathlib.Core.Path.{◌≡◌, refl, sym, ap, ◌∙◌}
+use mathlib.Core.Path.{◌≡◌, refl, sym, ap, subst, ◌∙◌}
 use mathlib.Core.List.{List, [], ◌∷◌, ◌++◌, append_assoc, append-nil}
 use native.Mathlib.Nat.{add-zero}
 use native.Mathlib.Omega.{arith}
@@ -142,8 +142,12 @@ moved_at (r ∷ rs) ss s g e b =
     go : Dec (g ≡ r.signal)
         → advance (get_or (advanced ss r.signal r.bytes) g empty) (gather g rs) ≡ advance (get_or ss g empty) (gather g (r ∷ rs))
     go (yes q) =
-        rw (q, get_or-set_same ss r.signal (next_slot ss r.signal r.bytes) empty (omega (arith, b.0)))
-        (advance-more (get_or ss r.signal empty) r.bytes (gather r.signal rs) ∙ ap (advance (get_or ss r.signal empty)) (sym (gather-own r rs)))
+        subst
+        (λ (h : ℕ). advance (get_or (advanced ss r.signal r.bytes) h empty) (gather h rs) ≡ advance (get_or ss h empty) (gather h (r ∷ rs)))
+        (sym q)
+        (ap (λ (x : Slot). advance x (gather r.signal rs)) (get_or-set_same ss r.signal (next_slot ss r.signal r.bytes) empty (omega (arith, b.0)))
+        ∙ advance-more (get_or ss r.signal empty) r.bytes (gather r.signal rs)
+        ∙ ap (advance (get_or ss r.signal empty)) (sym (gather-own r rs)))
     go (no n) =
         rw (get_or-set_other ss r.signal g (next_slot ss r.signal r.bytes) empty n)
         (ap (advance (get_or ss g empty)) (sym (gather-other g r rs (λ q. n (sym q)))))

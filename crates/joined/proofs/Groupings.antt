@@ -27,6 +27,7 @@ use Rattle.recording.proofs.TestsLaws.{AllFalse, guarded-map, guarded-same, guar
 use Rattle.joined.specs.Join.{refuse, joined, JoinAfter, join_after, joined_image, differs, no_block, early, join_tests, join_in, join_by}
 use Rattle.joined.specs.Groupings.{Result, refused, made, result_of, result, and_then, grouped_left, grouped_right, succeeds, for14_or16, HasRoom, Accepted, Groupings}
 use Rattle.joined.proofs.JoinLaws.{alike, joined-size, Passes, passes, join-valid}
+use Rattle.lists.specs.Last.{last_or}
 
 -- ---- tests, and what is done where none holds
 
@@ -70,7 +71,7 @@ end-joined : (end : Option ℕ) (bs cs : List (Block (List Entry))) → no_block
 unfolding end_after
 end-joined end [] [] n = let z : ◌≡◌ {A = ℕ} 0 1 = cc in absurd (omega arith)
 end-joined end [] (c ∷ cs) n = refl
-end-joined end (b ∷ bs) cs n = end-joined _ bs cs n
+end-joined end (b ∷ bs) cs n = end-joined (some (last_or 0 b.times)) bs cs n
 
 early-joined : (end : Option ℕ) (bs cs : List (Block (List Entry))) → no_block bs ≡ false → early end (bs ++ cs) ≡ early end bs
 early-joined none bs cs n = refl

@@ -15,6 +15,7 @@ use Rattle.lists.specs.Bytes.{Bytes}
 use Rattle.signal.specs.declared.kind.SignalEncoding.{SignalEncoding}
 use Rattle.signal.specs.declared.kind.SignalEncoding.TheVariants.{Absent}
 use Rattle.stream.specs.Entries.{Entry}
+use Rattle.lists.specs.Last.{last_or}
 use Rattle.image.specs.Block.{Part, Block, part_bytes, data_of, block_bytes}
 use Rattle.image.specs.Image.{Image, streamed_part, streamed_parts, streamed, blocks_bytes, image_bytes}
 use Rattle.image.proofs.SizeLaws.{block_size_lem}
@@ -80,7 +81,7 @@ streams-data : (limit : ℕ) (ks : List SignalEncoding) (g : ℕ) (end : Option 
 unfolding streams_length data_from
 streams-data limit ks g end [] f = omega arith
 streams-data limit ks g end (y ∷ bs) f =
-    omega (arith, stream-data ks y.parts g (parts-count _ ks y.parts f.1.0.parts), streams-data limit ks g _ bs f.1.1)
+    omega (arith, stream-data ks y.parts g (parts-count _ ks y.parts f.1.0.parts), streams-data limit ks g (some (last_or 0 y.times)) bs f.1.1)
 
 -- the first signal's streams, and the data of those after it
 data-part : (k : SignalEncoding) (ks : List SignalEncoding) (g : ℕ) (ps : List (Option (Part (List Entry))))

@@ -58,8 +58,8 @@ pub table-after : (l : List ℕ) (limit : ℕ) (ks : List SignalEncoding) (end :
 unfolding table_from
 table-after l limit ks end [] f = sym (join-none l)
 table-after l limit ks end (b ∷ bs) f =
-    table-after (join_times l b.times) limit ks _ bs f.1.1 ∙ join-join l b.times (table_from [] bs) f.1.0.any
-    ∙ ap (join_times l) (sym (table-after b.times limit ks _ bs f.1.1))
+    table-after (join_times l b.times) limit ks (some (last_or 0 b.times)) bs f.1.1 ∙ join-join l b.times (table_from [] bs) f.1.0.any
+    ∙ ap (join_times l) (sym (table-after b.times limit ks (some (last_or 0 b.times)) bs f.1.1))
 
 pub table-append : (l : List ℕ) (bs cs : List (Block (List Entry))) → table_from l (bs ++ cs) ≡ table_from (table_from l bs) cs
 unfolding table_from

@@ -10,7 +10,6 @@ use lib.ListN.{length, take, get_or}
 use lib.Seq.{take-length}
 use Rattle.recording.specs.declared.SignalRecord.{SignalRecord}
 use Rattle.recording.specs.Refusals.{bad_record, any_bad}
-use Rattle.records.proofs.Rows.{blank}
 
 -- of the first i records
 abbrev pub bad_upto : List SignalRecord → ℕ → Bool
@@ -24,13 +23,14 @@ bad-none (y ∷ ys) = refl
 pub bad-all : (ys : List SignalRecord) → bad_upto ys (length ys) ≡ any_bad ys
 bad-all ys = ap any_bad (take-length ys)
 
-suc-more : (ys : List SignalRecord) (i : ℕ) → i < length ys → (bad_upto ys i || bad_record (get_or ys i blank)) ≡ bad_upto ys (suc i)
+suc-more : (d : SignalRecord) (ys : List SignalRecord) (i : ℕ) → i < length ys → (bad_upto ys i || bad_record (get_or ys i d)) ≡ bad_upto ys (suc i)
 unfolding any_bad
-suc-more [] i l = absurd (not-suc-le-zero l)
-suc-more (y ∷ ys) zero l = sym (or-false (bad_record y))
-suc-more (y ∷ ys) (suc i) l =
-    or_assoc (bad_record y) (bad_upto ys i) (bad_record (get_or ys i blank))
-    ∙ ap (λ (b : Bool). bad_record y || b) (suc-more ys i (le_of_suc-le-suc l))
+suc-more d [] i l = absurd (not-suc-le-zero l)
+suc-more d (y ∷ ys) zero l = sym (or-false (bad_record y))
+suc-more d (y ∷ ys) (suc i) l =
+    or_assoc (bad_record y) (bad_upto ys i) (bad_record (get_or ys i d))
+    ∙ ap (λ (b : Bool). bad_record y || b) (suc-more d ys i (le_of_suc-le-suc l))
 
-pub bad_more : (ys : List SignalRecord) (i : ℕ) → i < length ys → (bad_upto ys i || bad_record (get_or ys i blank)) ≡ bad_upto ys (i + 1)
-bad_more ys i l = subst (λ (j : ℕ). (bad_upto ys i || bad_record (get_or ys i blank)) ≡ bad_upto ys j) (sym (add-one i)) (suc-more ys i l)
+-- d is what stands past the records
+pub bad_more : (d : SignalRecord) (ys : List SignalRecord) (i : ℕ) → i < length ys → (bad_upto ys i || bad_record (get_or ys i d)) ≡ bad_upto ys (i + 1)
+bad_more d ys i l = subst (λ (j : ℕ). (bad_upto ys i || bad_record (get_or ys i d)) ≡ bad_upto ys j) (sym (add-one i)) (suc-more d ys i l)

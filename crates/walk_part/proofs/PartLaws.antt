@@ -30,6 +30,7 @@ use Rattle.walk.specs.Walk.{Opened, image_from, image_in, block_place, parts_in,
 use Rattle.walk.proofs.StandLaws.{Stands, stands-front, stands-back, Number, stands-number, stands-nth}
 use Rattle.walk.proofs.HeadLaws.{means, head_in}
 use Rattle.walk.proofs.BlockLaws.{here, next-size}
+use Rattle.lists.specs.Last.{last_or}
 
 -- ---- parts as bytes
 
@@ -251,7 +252,7 @@ parts-long : (limit : ℕ) (ks : List SignalEncoding) (end : Option ℕ) (bs : L
     → BlocksFit limit ks end bs → length (get_or bs n (block [] [])).parts ≤ length ks
 parts-long limit ks end [] n f = omega arith
 parts-long limit ks end (y ∷ bs) zero f = omega (arith, parts-count _ ks y.parts f.1.0.parts)
-parts-long limit ks end (y ∷ bs) (suc n) f = parts-long limit ks _ bs n f.1.1
+parts-long limit ks end (y ∷ bs) (suc n) f = parts-long limit ks (some (last_or 0 y.times)) bs n f.1.1
 
 -- a signal that does not exist has no part
 pub found-past : (n g : ℕ) (b : List ℕ) → Bytes b → Opened b → length (image_in b).kinds ≤ g

@@ -8,7 +8,7 @@ pub settle_offsets-requires : goal.settle_offsets-requires
 settle_offsets-requires c =
     let sc = c.scatter_work in
     let p = c.requires in
-    (omega (arith, sc.auto.0, p.signals_bound.0, p.signals_bound.1), rw sc.ensures p.closes.1)
+    (omega (arith, sc.auto.tail, p.signals_bound.0, p.signals_bound.1), rw sc.ensures p.closes.1)
 
 pub returns : goal.returns
 returns c =

@@ -11,7 +11,7 @@ count_bytes-requires c =
     let tp = c.times_place in
     let he = c.put_head in
     let p = c.requires in
-    (omega (arith, cl.auto.0, ti.auto.0, he.auto.0, p.held_in_bounds.0), p.held_in_bounds.2, rw (cl.ensures, ti.ensures, tp.ensures, he.ensures) p.opens)
+    (omega (arith, cl.auto.tail, ti.auto.tail, he.auto.tail, p.held_in_bounds.0), p.held_in_bounds.2, rw (cl.ensures, ti.ensures, tp.ensures, he.ensures) p.opens)
 
 pub returns : goal.returns
 returns c =
@@ -20,15 +20,3 @@ returns c =
     let ti = cl in
     let he = ti in
     rw (co.count_bytes.ensures, cl.clear_kept.ensures, ti.put_times.ensures, ti.times_place.ensures, he.put_head.ensures) refl
-
-pub open-block-spec : {M : Type 1} → statement M
-open-block-spec =
-    tie.close
-    (tie.spec
-    put-head-requires
-    times-place-requires
-    put-times-requires
-    clear-kept-requires
-    count-bytes-requires
-    same_length
-    returns)

@@ -14,7 +14,7 @@ pub loop-g-preserved : goal.loop-g-preserved
 loop-g-preserved c =
     let d = c.keep_for in
     let l = c.loop-g in
-    (omega arith, d.auto.0 ∙ l.invariant.1, clear-turn l.g _ l.tail _ (omega arith) d.ensures ∙ l.invariant.2)
+    (omega arith, d.auto.tail ∙ l.invariant.1, clear-turn l.g _ l.tail _ (omega arith) d.ensures ∙ l.invariant.2)
 
 pub returns : goal.returns
 returns c =

@@ -19,7 +19,7 @@ loop-i-preserved c =
     let n1 : a.held - l.i ≡ suc (a.held - (l.i + 1)) = omega arith in (
       omega arith,
       omega (arith, d.ensures.0),
-      d.auto.0 ∙ l.invariant.2,
+      d.auto.buf ∙ l.invariant.2,
       rw (d.ensures.0, d.ensures.1, ← l.invariant.3, n1) (les-more (a.held - (l.i + 1)) l.i l.p a.times.now l.tail (omega arith)),
     )
 

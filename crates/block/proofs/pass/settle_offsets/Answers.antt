@@ -22,7 +22,7 @@ loop-g-preserved c =
     let n = c.args.signals in
     let h : l.g < n = omega arith in (
       omega arith,
-      d.auto.0 ∙ l.invariant.1,
+      d.auto.tail ∙ l.invariant.1,
       settles-turn l.o l.g n l.tail _ _ h d.ensures.0 d.ensures.1 l.invariant.2,
       settle-turn l.o l.g n l.tail _ _ h d.ensures.0 d.ensures.1 ∙ l.invariant.3,
     )
