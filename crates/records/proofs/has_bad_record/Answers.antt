@@ -1,5 +1,5 @@
 -- One record more is one test more; past the last, all are tested.
-use mathlib.Core.Path.{◌≡◌, sym, ◌∙◌}
+use mathlib.Core.Path.{◌≡◌, ◌∙◌}
 use native.Mathlib.Omega.{arith}
 use lib.ListN.{length}
 use Rattle.records.proofs.BadLaws.{bad-none, bad-all, bad_more}

@@ -73,13 +73,11 @@ returns c =
     let n = k.block_count.result + k.block_count-2.result in
     let h = f.first_block-head.result in
     let t = s.args.total in
+    let sums : k.block_count.result + k.block_count-2.result ≡ length (image_in a).blocks + length (image_in b).blocks =
+    omega (arith, k.block_count.ensures, k.block_count-2.ensures) in
     rw (e3.1, e2.1, e1.1)
     (three-sets (take 8 a ++ (le 4 n ++ le 4 t)) (take (length a - 16) (drop 16 a)) (take (length b - h) (drop h b)) s.args.out.now 0 _ _ refl
     (omega (arith, e1.0, z.numbers n t)) (omega (arith, e2.0, z.rest))
     ∙ ap (sets s.args.out.now 0)
     (sym (joined_bytes a b (λ j. (k.shared_slice_known-1.given j).fits) (λ j. (k.shared_slice_known-2-1.given j).fits)
-    s.requires.opened.0 s.requires.opened.1 s.requires.opened.2 n h t (sums (goal.at.returns c).After-block_count-2) (f.first_block-head.ensures ∙ first-place (image_in b)) s.requires.total_value.0)))
-  where
-    sums : ((goal.at.returns c).After-block_count-2 : tie.After-block-count2) → let a = k.args in
-        k.block_count.result + k.block_count-2.result ≡ length (image_in a.first.now).blocks + length (image_in a.second.now).blocks
-    sums (goal.at.returns c).After-block_count-2 = omega (arith, k.block_count.ensures, k.block_count-2.ensures)
+    s.requires.opened.0 s.requires.opened.1 s.requires.opened.2 n h t sums (f.first_block-head.ensures ∙ first-place (image_in b)) s.requires.total_value.0)))

@@ -1,0 +1,12 @@
+-- The loop's invariant: the output holds the entries of the blocks before, and the blocks that are left make of these what all blocks give.
+use Prim.Native.Nat.{◌-◌}
+use Rattle.value.specs.Class.{class_number}
+use Rattle.loader.proofs.BlocksLaws.{Passing}
+use Rattle.loader.proofs.blocks.load_blocks.Given as goal
+
+abbrev pub invariant-loop-number : goal.invariant-loop-number
+invariant-loop-number l =
+    Passing l.image l.signal (class_number l.class) l.write l.initial.index l.initial.bytes l.number l.at l.times l.later l.end l.state l.index l.bytes
+
+abbrev pub decreases-loop-number : goal.decreases-loop-number
+decreases-loop-number l = l.blocks - l.number
