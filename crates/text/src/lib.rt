@@ -56,10 +56,8 @@ pub fn past(s: &[u8], at: usize, stop: u8) -> usize
 // Word k of a line, from 0, with the byte that ends it. Words are parted by one space.
 pub fn word(line: &[u8], k: usize) -> &[u8] {
     let mut at = 0;
-    let mut i = 0;
-    while i < k {
+    for _ in 0..k {
         at = past(line, at, b' ');
-        i += 1;
     }
     between(line, at, past(line, at, b' '))
 }
