@@ -27,14 +27,8 @@ fn make_held<W: Write>(
 }
 
 fn copy(from: &[u64], to: &mut [u64]) {
-    let mut i = 0;
-    while i < to.len() {
-        if from.len() <= i {
-            return;
-        }
-        to[i] = from[i];
-        i += 1;
-    }
+    let n = from.len().min(to.len());
+    to[..n].copy_from_slice(&from[..n]);
 }
 
 // A start finds records of its kinds; those of the recording are saved.
