@@ -34,14 +34,12 @@ fn print_refused<W: Write>(to: &mut W, number: u32, stands: bool) -> io::Result<
 // ---- the combined table
 
 fn print_times<W: Write>(to: &mut W, times: &[u64], count: usize) -> io::Result<()> {
-    let mut i = 0;
-    while i < count {
+    for i in 0..count {
         if times.len() <= i {
             return Ok(());
         }
         print(to, b" ")?;
         print_number(to, times[i])?;
-        i += 1;
     }
     Ok(())
 }
@@ -63,13 +61,11 @@ pub fn print_table<W: Write>(to: &mut W, answer: TableAnswer, times: &[u64]) -> 
 // ---- a loaded signal
 
 fn print_indices<W: Write>(to: &mut W, index: &[u32], count: usize) -> io::Result<()> {
-    let mut i = 0;
-    while i < count {
+    for i in 0..count {
         if index.len() <= i {
             return Ok(());
         }
         print_count(to, b" ", index[i])?;
-        i += 1;
     }
     Ok(())
 }
@@ -129,13 +125,11 @@ fn print_symbol<W: Write>(to: &mut W, n: usize) -> io::Result<()> {
 }
 
 fn print_symbols<W: Write>(to: &mut W, symbols: &[u8], count: usize) -> io::Result<()> {
-    let mut i = 0;
-    while i < count {
+    for i in 0..count {
         if symbols.len() <= i {
             return Ok(());
         }
         print_symbol(to, wide_64(symbols[i]) as usize)?;
-        i += 1;
     }
     Ok(())
 }
@@ -149,7 +143,7 @@ fn print_vector<W: Write>(to: &mut W, class: States, symbols: &[u8]) -> io::Resu
 
 // A real is the f64 of its bits, or a NaN where they are a NaN's.
 fn agrees(real: f64, bits: u64) -> bool {
-    if real != real {
+    if real.is_nan() {
         return 0x7ff0_0000_0000_0000 < bits % 0x8000_0000_0000_0000;
     }
     f64::to_bits(real) == bits

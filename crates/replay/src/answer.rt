@@ -88,10 +88,8 @@ fn letter(symbol: u8) -> u8 {
 
 // Puts letters in the place of symbols.
 fn spell(symbols: &mut [u8]) {
-    let mut i = 0;
-    while i < symbols.len() {
-        symbols[i] = letter(symbols[i]);
-        i += 1;
+    for symbol in symbols {
+        *symbol = letter(*symbol);
     }
 }
 
