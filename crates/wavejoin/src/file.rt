@@ -22,16 +22,21 @@ fn read_all<R: Read>(from: &mut R, buf: &mut [u8]) -> Input {
     }
 }
 
-// Reads the file that argument i names to the start of the buffer. A name that is longer than a path may be comes as an empty one, which
-// names no file; a path is text in UTF-8, so any other name names none either.
-pub fn read_argument<R: Env + Files>(rt: &R, i: usize, buf: &mut [u8]) -> Input {
+// Opens the file that argument i names. A name that is longer than a path may be comes as an empty one, which names no file; a path is text in
+// UTF-8, so any other name names none either.
+fn open_argument<R: Env + Files>(rt: &R, i: usize) -> Option<R::File> {
     let mut path = [0u8; 4096];
     let n = argument(rt, i, &mut path);
-    let Ok(name) = from_utf8(&path[..n]) else {
-        return Input::Unreadable;
-    };
-    match File::open(rt, name) {
-        Ok(mut file) => read_all(&mut file, buf),
-        Err(_) => Input::Unreadable,
+    match from_utf8(&path[..n]) {
+        Ok(name) => File::open(rt, name).ok(),
+        Err(_) => None,
+    }
+}
+
+// Reads the file that argument i names to the start of the buffer.
+pub fn read_argument<R: Env + Files>(rt: &R, i: usize, buf: &mut [u8]) -> Input {
+    match open_argument(rt, i) {
+        Some(mut file) => read_all(&mut file, buf),
+        None => Input::Unreadable,
     }
 }
