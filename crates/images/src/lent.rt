@@ -8,35 +8,28 @@ pub const TIME: u64 = 0xa5a5a5a5a5a5a5a5;
 // The place from which on the pattern stands to the end.
 pub fn bytes_end(s: &[u8]) -> usize {
     let mut n = 0;
-    let mut i = 0;
-    while i < s.len() {
-        let b = s[i];
-        i += 1;
-        if b != BYTE {
-            n = i;
+    for i in 0..s.len() {
+        if s[i] != BYTE {
+            n = i + 1;
         }
     }
     n
 }
 
 pub fn numbers_stand(s: &[u32], from: usize) -> bool {
-    let mut i = from;
-    while i < s.len() {
+    for i in from..s.len() {
         if s[i] != NUMBER {
             return false;
         }
-        i += 1;
     }
     true
 }
 
 pub fn times_stand(s: &[u64], from: usize) -> bool {
-    let mut i = from;
-    while i < s.len() {
+    for i in from..s.len() {
         if s[i] != TIME {
             return false;
         }
-        i += 1;
     }
     true
 }

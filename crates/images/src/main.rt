@@ -7,9 +7,10 @@ mod lent;
 mod show;
 
 use ask::ask;
-use libc::STDIN_FILENO;
+use std::io;
+use std::io::{BufWriter, Write};
 use text::number::hex_bytes;
-use text::{before, between, byte_at, past, word};
+use text::{before, between, byte_at, past, read_full, word};
 
 // Which word of a question has the image, its last one.
 fn image_word(name: u8) -> usize {
@@ -29,35 +30,38 @@ fn read_image(space: &mut [u8], n: usize, hex: &[u8]) -> usize {
     hex_bytes(space, hex)
 }
 
-fn take_line(line: &[u8], space: &mut [u8], n: usize) -> usize {
+fn take_line<W: Write>(to: &mut W, line: &[u8], space: &mut [u8], n: usize) -> io::Result<usize> {
     let size = read_image(space, n, word(line, image_word(byte_at(line, 0))));
-    ask(line, before(&*space, size));
-    size
+    ask(to, line, before(&*space, size))?;
+    Ok(size)
 }
 
 // Takes each line. The text ends in a line feed.
-fn take_lines(sheet: &[u8], space: &mut [u8]) {
+fn take_lines<W: Write>(to: &mut W, sheet: &[u8], space: &mut [u8]) -> io::Result<()> {
     let mut n = 0;
     let mut at = 0;
     while at < sheet.len() {
         let end = past(sheet, at, b'\n');
         let line = between(sheet, at, end);
         at = end;
-        n = take_line(line, space, n);
+        n = take_line(to, line, space, n)?;
     }
+    Ok(())
 }
 
-fn take_sheet(sheet: &[u8]) {
+fn take_sheet<W: Write>(to: &mut W, sheet: &[u8]) -> io::Result<()> {
     let mut space = [0u8; 1024];
-    take_lines(sheet, &mut space);
+    take_lines(to, sheet, &mut space)
 }
 
 fn zeros() -> [u8; 425984] {
     [0u8; 425984]
 }
 
-fn main() {
+fn main(rt: HostRuntime) -> io::Result<()> {
     let mut sheet = zeros();
-    let n = io::read_full(STDIN_FILENO, &mut sheet);
-    take_sheet(&sheet[..n]);
+    let n = read_full(&mut rt.stdin(), &mut sheet)?;
+    let mut to = BufWriter::new(rt.alloc(), rt.stdout())?;
+    take_sheet(&mut to, &sheet[..n])?;
+    to.flush()
 }

@@ -9,7 +9,6 @@ mod calls;
 mod records;
 
 use calls::perform;
-use libc::STDIN_FILENO;
 use line::hex::put_hex;
 use owned::Kept;
 use recording::SignalRecord;
@@ -20,7 +19,9 @@ use sheet::run::{
     put_outcome, state_of, take_line,
 };
 use sheet::{lent_bytes, lent_numbers, line_end, value_digits};
-use text::{before, between};
+use std::io;
+use std::io::{BufWriter, Write};
+use text::{before, between, read_full};
 
 // A start finds records of its kinds, any other call those of the call before.
 fn begun(run: &Run, line: &[u8], records: [SignalRecord; 2]) -> [SignalRecord; 2] {
@@ -73,24 +74,25 @@ struct Owned {
 }
 
 // Makes the call of a line, if it has one, and answers it.
-fn take_call(
+fn take_call<W: Write>(
+    to: &mut W,
     run: &mut Run,
     line: &[u8],
     held: Owned,
     times: &mut [u64],
     work: &mut [u8],
     image: &mut [u8],
-) -> Owned {
+) -> io::Result<Owned> {
     if FINISH < run[CALL] {
-        return held;
+        return Ok(held);
     }
     let records = held.records;
     let found = begun(&*run, line, records);
     let mut space = [0u8; 16];
     let n = put_hex(&mut space, value_digits(&*run, line));
     let left = make(run, found, before(&space, n), times, work, image);
-    print_made(&*run, false, &*image);
-    Owned { records: left }
+    print_made(to, &*run, false, &*image)?;
+    Ok(Owned { records: left })
 }
 
 fn unset() -> Owned {
@@ -98,7 +100,14 @@ fn unset() -> Owned {
     Owned { records }
 }
 
-fn take_lines(run: &mut Run, sheet: &[u8], times: &mut [u64], work: &mut [u8], image: &mut [u8]) {
+fn take_lines<W: Write>(
+    to: &mut W,
+    run: &mut Run,
+    sheet: &[u8],
+    times: &mut [u64],
+    work: &mut [u8],
+    image: &mut [u8],
+) -> io::Result<()> {
     let mut held = unset();
     let mut at = 0;
     while at < sheet.len() {
@@ -106,21 +115,24 @@ fn take_lines(run: &mut Run, sheet: &[u8], times: &mut [u64], work: &mut [u8], i
         let line = between(sheet, at, end);
         at = end + 1;
         take_line(run, line);
-        held = take_call(run, line, held, times, work, image);
+        held = take_call(to, run, line, held, times, work, image)?;
     }
+    Ok(())
 }
 
 // Makes the calls of a sheet in memory of its own.
-fn take_sheet(sheet: &[u8]) {
+fn take_sheet<W: Write>(to: &mut W, sheet: &[u8]) -> io::Result<()> {
     let mut run = fresh_run(4, 128, 128);
     let mut times = [0u64; 4];
     let mut work = [0u8; 128];
     let mut image = [0u8; 128];
-    take_lines(&mut run, sheet, &mut times, &mut work, &mut image);
+    take_lines(to, &mut run, sheet, &mut times, &mut work, &mut image)
 }
 
-fn main() {
+fn main(rt: HostRuntime) -> io::Result<()> {
     let mut sheet = [0u8; 8192];
-    let n = io::read_full(STDIN_FILENO, &mut sheet);
-    take_sheet(&sheet[..n]);
+    let n = read_full(&mut rt.stdin(), &mut sheet)?;
+    let mut to = BufWriter::new(rt.alloc(), rt.stdout())?;
+    take_sheet(&mut to, &sheet[..n])?;
+    to.flush()
 }

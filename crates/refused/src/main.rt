@@ -2,6 +2,11 @@
 // from documents 01 and 02.
 #![tactic(auto)]
 
-fn main() {
-    sheet::tests::replay(1);
+use std::io;
+use std::io::{BufWriter, Write};
+
+fn main(rt: HostRuntime) -> io::Result<()> {
+    let mut to = BufWriter::new(rt.alloc(), rt.stdout())?;
+    sheet::tests::replay(&mut rt.stdin(), &mut to, 1)?;
+    to.flush()
 }

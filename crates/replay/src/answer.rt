@@ -1,17 +1,18 @@
 // Answers: `bad`, or the top class, the stream bytes, and what reading them back shows.
 use crate::question::{Question, parse};
-use libc::STDOUT_FILENO;
 use numbers::wide_64;
 use packed_symbols::{bytes_required, unpack};
 use signal::decode::{ChangeValue, DecodedChange};
 use signal::kind::SignalEncoding;
 use signal_decode::{decode_raw, decode_real, decode_vcd};
+use std::io;
+use std::io::Write;
 use stream::read::{MAX_DELTA, ReadChange};
 use stream_length::change_len;
 use stream_read::read_change;
 use stream_write::{put_raw_change, put_real_change, put_vcd_change};
 use text::number::{big_endian, hex_bytes};
-use text::{before, byte_at, print, print_bytes, print_number, word};
+use text::{before, byte_at, print, print_bytes, print_hex, print_number, word};
 use value::states::States;
 
 // The top class and how many stream bytes were written.
@@ -87,71 +88,78 @@ fn letter(symbol: u8) -> u8 {
 
 // Puts letters in the place of symbols.
 fn spell(symbols: &mut [u8]) {
-    let mut i = 0;
-    while i < symbols.len() {
-        symbols[i] = letter(symbols[i]);
-        i += 1;
+    for symbol in symbols {
+        *symbol = letter(*symbol);
     }
 }
 
 // The symbols of a wider vector, whose packed bytes end the stream.
-fn print_vector(stream: &[u8], width: u32, states: States) {
+fn print_vector<W: Write>(to: &mut W, stream: &[u8], width: u32, states: States) -> io::Result<()> {
     if 256 < width {
-        return print(b"mismatch");
+        return print(to, b"mismatch");
     }
     if stream.len() < bytes_required(states, width) {
-        return print(b"mismatch");
+        return print(to, b"mismatch");
     }
     let mut symbols = [0u8; 256];
     unpack(&mut symbols, stream, width, states);
     spell(&mut symbols);
-    print(before(&symbols, width as usize));
+    print(to, before(&symbols, width as usize))
 }
 
-fn print_value(stream: &[u8], width: u32, value: ChangeValue) {
+fn print_value<W: Write>(
+    to: &mut W,
+    stream: &[u8],
+    width: u32,
+    value: ChangeValue,
+) -> io::Result<()> {
     match value {
-        ChangeValue::Event => print(b"event"),
-        ChangeValue::SingleBit(bit) => print(&[letter(bit.0)]),
-        ChangeValue::MultiBit(states) => print_vector(stream, width, states),
-        ChangeValue::Real(bits) => {
-            io::print_hex(STDOUT_FILENO, bits, 16);
-        }
+        ChangeValue::Event => print(to, b"event"),
+        ChangeValue::SingleBit(bit) => print(to, &[letter(bit.0)]),
+        ChangeValue::MultiBit(states) => print_vector(to, stream, width, states),
+        ChangeValue::Real(bits) => print_hex(to, bits, 16),
     }
 }
 
 // What reading the stream shows: one change, with d and up to the end.
-fn print_read(stream: &[u8], kind: SignalEncoding, d: u32) {
+fn print_read<W: Write>(to: &mut W, stream: &[u8], kind: SignalEncoding, d: u32) -> io::Result<()> {
     match read_change(stream, 0, kind) {
         ReadChange::Change(back, value, next) => {
             if back != d {
-                return print(b"mismatch");
+                return print(to, b"mismatch");
             }
             if next != stream.len() {
-                return print(b"mismatch");
+                return print(to, b"mismatch");
             }
-            print_value(stream, kind.width(), value)
+            print_value(to, stream, kind.width(), value)
         }
-        ReadChange::Bad => print(b"mismatch"),
+        ReadChange::Bad => print(to, b"mismatch"),
     }
 }
 
-fn print_change(top: u8, stream: &[u8], kind: SignalEncoding, d: u32) {
-    print_number(wide_64(top));
-    print(b" ");
-    print_bytes(stream);
-    print(b" ");
-    print_read(stream, kind, d);
-    print(b"\n");
+fn print_change<W: Write>(
+    to: &mut W,
+    top: u8,
+    stream: &[u8],
+    kind: SignalEncoding,
+    d: u32,
+) -> io::Result<()> {
+    print_number(to, wide_64(top))?;
+    print(to, b" ")?;
+    print_bytes(to, stream)?;
+    print(to, b" ")?;
+    print_read(to, stream, kind, d)?;
+    print(to, b"\n")
 }
 
-pub fn answer(line: &[u8]) {
+pub fn answer<W: Write>(to: &mut W, line: &[u8]) -> io::Result<()> {
     let q = parse(line);
     let mut value = [0u8; 256];
     let size = hex_bytes(&mut value, word(line, q.hex));
     let mut stream = [0u8; 256];
     let kind = q.kind;
     match write(&mut stream, q, before(&value, size)) {
-        Written::Bad => print(b"bad\n"),
-        Written::Change(top, end) => print_change(top, before(&stream, end), kind, q.d),
+        Written::Bad => print(to, b"bad\n"),
+        Written::Change(top, end) => print_change(to, top, before(&stream, end), kind, q.d),
     }
 }

@@ -6,25 +6,29 @@ mod answer;
 mod question;
 
 use answer::answer;
-use libc::STDIN_FILENO;
-use text::{between, past};
+use std::io;
+use std::io::{BufWriter, Write};
+use text::{between, past, read_full};
 
 // Answers each line. The text ends in a line feed.
-fn replay(s: &[u8]) {
+fn replay<W: Write>(to: &mut W, s: &[u8]) -> io::Result<()> {
     let mut at = 0;
     while at < s.len() {
         let end = past(s, at, b'\n');
-        answer(between(s, at, end));
+        answer(to, between(s, at, end))?;
         at = end;
     }
+    Ok(())
 }
 
 fn zeros() -> [u8; 262144] {
     [0u8; 262144]
 }
 
-fn main() {
+fn main(rt: HostRuntime) -> io::Result<()> {
     let mut input = zeros();
-    let n = io::read_full(STDIN_FILENO, &mut input);
-    replay(&input[..n]);
+    let n = read_full(&mut rt.stdin(), &mut input)?;
+    let mut to = BufWriter::new(rt.alloc(), rt.stdout())?;
+    replay(&mut to, &input[..n])?;
+    to.flush()
 }

@@ -17,14 +17,12 @@ pub const IMAGE: u64 = 4;
 
 // The place of a name in a row of so many; past them where it is none of them.
 fn place_of(name: &[u8], names: &[u8], count: usize) -> usize {
-    let mut k = 0;
-    while k < count {
+    for k in 0..count {
         if spells(name, word(names, k)) {
             return k;
         }
-        k += 1;
     }
-    k
+    count
 }
 
 fn number_at(line: &[u8], k: usize) -> u64 {

@@ -14,20 +14,16 @@ fn mixed_wide(sum: u64, x: u64) -> u64 {
 
 fn mixed_numbers(sum: u64, s: &[u64]) -> u64 {
     let mut r = sum;
-    let mut i = 0;
-    while i < s.len() {
-        r = mixed_wide(r, s[i]);
-        i += 1;
+    for x in s {
+        r = mixed_wide(r, *x);
     }
     r
 }
 
 fn mixed_bytes(sum: u64, s: &[u8]) -> u64 {
     let mut r = sum;
-    let mut i = 0;
-    while i < s.len() {
-        r = mixed(r, wide_64(s[i]));
-        i += 1;
+    for x in s {
+        r = mixed(r, wide_64(*x));
     }
     r
 }
@@ -35,10 +31,8 @@ fn mixed_bytes(sum: u64, s: &[u8]) -> u64 {
 // The state.
 fn mixed_state(run: &Run) -> u64 {
     let mut r = 0;
-    let mut i = 0;
-    while i < FIELDS {
+    for i in 0..FIELDS {
         r = mixed_wide(r, run[i]);
-        i += 1;
     }
     r
 }

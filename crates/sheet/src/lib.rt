@@ -85,12 +85,10 @@ pub fn line_end(sheet: &[u8], at: usize) -> usize
     requires { at ≤ length sheet.now }
     ensures { (at ≤ result) × (result ≤ length sheet.now) }
 {
-    let mut i = at;
-    while i < sheet.len() {
+    for i in at..sheet.len() {
         if sheet[i] == b'\n' {
             return i;
         }
-        i += 1;
     }
-    i
+    sheet.len()
 }

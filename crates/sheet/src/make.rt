@@ -5,33 +5,30 @@ use crate::record::{no_records, put_records};
 use crate::run::{ANSWER, CALL, KEPT, RECORDS, Run, START, STARTED, probes_of};
 use crate::{make_call, mark_probes, value_digits};
 use line::hex::put_hex;
+use std::io;
+use std::io::Write;
 use text::before;
 
 // Makes the call that the run holds, and prints its answer.
-fn make_held(
+fn make_held<W: Write>(
+    to: &mut W,
     run: &mut Run,
     value: &[u8],
     records: &mut [u64],
     times: &mut [u64],
     work: &mut [u8],
     image: &mut [u8],
-) {
+) -> io::Result<()> {
     let sum = checksum(&*run, &*records, &*times, &*work, &*image);
     make_call(run, value, records, times, work, image);
     mark_probes(run, &*records);
     let moved = sum != checksum(&*run, &*records, &*times, &*work, &*image);
-    print_made(&*run, moved, &*image)
+    print_made(to, &*run, moved, &*image)
 }
 
 fn copy(from: &[u64], to: &mut [u64]) {
-    let mut i = 0;
-    while i < to.len() {
-        if from.len() <= i {
-            return;
-        }
-        to[i] = from[i];
-        i += 1;
-    }
+    let n = from.len().min(to.len());
+    to[..n].copy_from_slice(&from[..n]);
 }
 
 // A start finds records of its kinds; those of the recording are saved.
@@ -54,18 +51,20 @@ fn end(run: &mut Run, records: &mut [u64], saved: &[u64]) {
 }
 
 // Makes the call of a line.
-pub fn make(
+pub fn make<W: Write>(
+    to: &mut W,
     run: &mut Run,
     line: &[u8],
     records: &mut [u64],
     times: &mut [u64],
     work: &mut [u8],
     image: &mut [u8],
-) {
+) -> io::Result<()> {
     let mut saved = no_records();
     let mut space = [0u8; 16384];
     begin(run, line, records, &mut saved);
     let n = put_hex(&mut space, value_digits(&*run, line));
-    make_held(run, before(&space, n), records, times, work, image);
-    end(run, records, &saved)
+    make_held(to, run, before(&space, n), records, times, work, image)?;
+    end(run, records, &saved);
+    Ok(())
 }

@@ -28,15 +28,13 @@ pub fn probe_of(record: u64) -> u8 {
 
 // One of the first so many records names probe 1.
 pub fn names_one(records: &[u64], count: u64) -> bool {
-    let mut i = 0;
-    while i < records.len() {
+    for i in 0..records.len() {
         if count <= i as u64 {
             return false;
         }
         if probe_of(records[i]) == 1 {
             return true;
         }
-        i += 1;
     }
     false
 }
@@ -57,14 +55,12 @@ fn copies(kind: &[u8]) -> u64 {
 // Writes copies of a number from a place on, as far as there is room, and answers the place after them.
 fn put_copies(records: &mut [u64], from: usize, count: u64, n: u64) -> usize {
     let mut i = from;
-    let mut left = count;
-    while 0 < left {
+    for _ in 0..count {
         if records.len() <= i {
             return i;
         }
         records[i] = n;
         i += 1;
-        left -= 1;
     }
     i
 }
@@ -73,17 +69,13 @@ fn put_copies(records: &mut [u64], from: usize, count: u64, n: u64) -> usize {
 // start sets them.
 pub fn put_records(records: &mut [u64], line: &[u8], probes: &[u64]) -> usize {
     let mut n = 0;
-    let mut at = 0;
-    let mut k = 3;
-    while k < line.len() {
+    for k in 3..line.len() {
         let kind = word(line, k);
         if kind.len() == 0 {
             return n;
         }
-        let record = stored(kind_number(kind), 7, 2, probe_at(probes, at) as u64);
+        let record = stored(kind_number(kind), 7, 2, probe_at(probes, k - 3) as u64);
         n = put_copies(records, n, copies(kind), record);
-        at += 1;
-        k += 1;
     }
     n
 }

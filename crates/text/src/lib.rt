@@ -1,12 +1,15 @@
-// Text in byte slices, and what is printed, for the programs. Past the end stand zeros, and parts end where the slice does.
+// Text in byte slices, and what is read and printed, for the programs. Past the end stand zeros, and parts end where the slice does.
 #![tactic(auto)]
 
 pub mod number;
 
-ghost use Rattle.std.specs.Prelude.{◌≡◌, ◌<◌, length};
+ghost use Rattle.std.specs.Prelude.{◌<◌, ◌≤◌, IfOk, OnOk, length};
+ghost use Rattle.std.specs.Io.KnownBytes.{Appends};
 
-use libc::STDOUT_FILENO;
-use numbers::wide_64;
+use std::env::FillError;
+use std::io;
+use std::io::{Read, Write};
+use std::rt::Env;
 
 pub fn byte_at(s: &[u8], at: usize) -> u8 {
     if at < s.len() {
@@ -53,28 +56,67 @@ pub fn past(s: &[u8], at: usize, stop: u8) -> usize
 // Word k of a line, from 0, with the byte that ends it. Words are parted by one space.
 pub fn word(line: &[u8], k: usize) -> &[u8] {
     let mut at = 0;
-    let mut i = 0;
-    while i < k {
+    for _ in 0..k {
         at = past(line, at, b' ');
-        i += 1;
     }
     between(line, at, past(line, at, b' '))
 }
 
-pub fn print(text: &[u8]) {
-    io::write_all(STDOUT_FILENO, text);
+// Reads until the buffer is full or the input ends, and answers how many bytes stand at its start. A read may bring fewer than are asked for.
+pub fn read_full<R: Read>(from: &mut R, buf: &mut [u8]) -> io::Result<usize>
+    ensures { IfOk result (λ n. n ≤ length buf.new) }
+{
+    let mut done = 0;
+    while done < buf.len() {
+        let n = from.read(&mut buf[done..])?;
+        if n == 0 {
+            return Ok(done);
+        }
+        done += n;
+    }
+    Ok(done)
+}
+
+// Whether the program has an argument of this number. Argument 0 is its name.
+pub fn has_argument(rt: &impl Env, i: usize) -> bool {
+    let mut none = [0u8; 0];
+    match rt.arg(i, &mut none) {
+        Err(FillError::NotPresent) => false,
+        _ => true,
+    }
+}
+
+// Writes an argument to the start of the buffer, and answers how many bytes it has: 0 where there is none of this number, or no room for it.
+pub fn argument(rt: &impl Env, i: usize, buf: &mut [u8]) -> usize
+    ensures { result ≤ length buf.new }
+{
+    match rt.arg(i, buf) {
+        Ok(n) => n,
+        Err(_) => 0,
+    }
+}
+
+pub fn print<W: Write>(to: &mut W, text: &[u8]) -> io::Result<()>
+    ensures { OnOk result (Appends (W.contents to.old) (W.contents to.new) text.now) }
+{
+    to.write_all(text)
 }
 
 // A number in decimal.
-pub fn print_number(n: u64) {
-    io::print_decimal(STDOUT_FILENO, n);
+pub fn print_number<W: Write>(to: &mut W, n: u64) -> io::Result<()> {
+    write!(to, "{n}")
+}
+
+// A number in hexadecimal, of so many digits at least.
+pub fn print_hex<W: Write>(to: &mut W, n: u64, digits: usize) -> io::Result<()> {
+    write!(to, "{n:0digits$x}")
 }
 
 // Each byte as two digits.
-pub fn print_bytes(s: &[u8]) {
-    let mut i = 0;
-    while i < s.len() {
-        io::print_hex(STDOUT_FILENO, wide_64(s[i]), 2);
-        i += 1;
+pub fn print_bytes<W: Write>(to: &mut W, s: &[u8]) -> io::Result<()> {
+    for b in s {
+        let b = *b;
+        write!(to, "{b:02x}")?;
     }
+    Ok(())
 }

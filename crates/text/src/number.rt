@@ -26,14 +26,12 @@ fn digit(b: u8) -> u64
 // The decimal number that a text begins with, if it has 64 bits.
 pub fn number(s: &[u8]) -> u64 {
     let mut value: u64 = 0;
-    let mut i = 0;
-    while i < s.len() {
-        let x = digit(s[i]);
+    for b in s {
+        let x = digit(*b);
         if 9 < x {
             return value;
         }
-        value = std::num::wrapping_add_u64(value % 1844674407370955162 * 10, x);
-        i += 1;
+        value = (value % 1844674407370955162 * 10).wrapping_add(x);
     }
     value
 }
@@ -66,10 +64,8 @@ pub fn hex_bytes(out: &mut [u8], hex: &[u8]) -> usize {
 // The number of bytes, highest first.
 pub fn big_endian(s: &[u8]) -> u64 {
     let mut v: u64 = 0;
-    let mut i = 0;
-    while i < s.len() {
-        v = v % 72057594037927936 * 256 + wide_64(s[i]);
-        i += 1;
+    for b in s {
+        v = v % 72057594037927936 * 256 + wide_64(*b);
     }
     v
 }

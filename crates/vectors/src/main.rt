@@ -2,165 +2,181 @@
 // that a signal takes or refuses. The file `stdout` was written by hand, from the documents.
 #![tactic(auto)]
 
-use libc::STDOUT_FILENO;
 use numbers::leb128::{Leb128, get_leb128, leb128_len, put_leb128};
 use numbers::little_endian::{get_u32, get_u64, put_u32, put_u64};
 use numbers::wide_64;
 use signal::decode::DecodedChange;
 use signal::kind::SignalEncoding;
 use signal_decode::{decode_raw, decode_vcd};
-use text::{before, print, print_bytes, print_number};
+use std::io;
+use std::io::{BufWriter, Write};
+use text::{before, print, print_bytes, print_hex, print_number};
 
-fn print_count(name: &[u8], n: u64) {
-    print(name);
-    print_number(n);
+fn print_count<W: Write>(to: &mut W, name: &[u8], n: u64) -> io::Result<()> {
+    print(to, name)?;
+    print_number(to, n)
 }
 
-fn print_line(name: &[u8], n: u64) {
-    print_count(name, n);
-    print(b"\n");
+fn print_line<W: Write>(to: &mut W, name: &[u8], n: u64) -> io::Result<()> {
+    print_count(to, name, n)?;
+    print(to, b"\n")
 }
 
-fn print_read(r: Leb128) {
+fn print_read<W: Write>(to: &mut W, r: Leb128) -> io::Result<()> {
     match r {
         Leb128::Value(v, next) => {
-            print_count(b" ", v as u64);
-            print_line(b" ", next as u64)
+            print_count(to, b" ", v as u64)?;
+            print_line(to, b" ", next as u64)
         }
-        Leb128::Bad => print(b" bad\n"),
+        Leb128::Bad => print(to, b" bad\n"),
     }
 }
 
 // The number that stands in bytes, and how many it takes.
-fn read_leb128(s: &[u8]) {
-    print(b"read ");
-    print_bytes(s);
-    print_read(get_leb128(s, 0))
+fn read_leb128<W: Write>(to: &mut W, s: &[u8]) -> io::Result<()> {
+    print(to, b"read ")?;
+    print_bytes(to, s)?;
+    print_read(to, get_leb128(s, 0))
 }
 
-fn print_leb128(v: u32, s: &[u8]) {
-    print_count(b"leb128 ", v as u64);
-    print(b" ");
-    print_bytes(s);
-    print(b"\n");
-    read_leb128(s)
+fn print_leb128<W: Write>(to: &mut W, v: u32, s: &[u8]) -> io::Result<()> {
+    print_count(to, b"leb128 ", v as u64)?;
+    print(to, b" ")?;
+    print_bytes(to, s)?;
+    print(to, b"\n")?;
+    read_leb128(to, s)
 }
 
 // A number's bytes, and the number that they read as.
-fn leb128(v: u32) {
+fn leb128<W: Write>(to: &mut W, v: u32) -> io::Result<()> {
     let mut buf = [0u8; 8];
     if 8 < leb128_len(v) {
-        return print(b"leb128 too long\n");
+        return print(to, b"leb128 too long\n");
     }
     let end = put_leb128(&mut buf, 0, v);
-    print_leb128(v, before(&buf, end))
+    print_leb128(to, v, before(&buf, end))
 }
 
-fn leb128_values() {
-    leb128(0);
-    leb128(2);
-    leb128(127);
-    leb128(128);
-    leb128(129);
-    leb128(130);
-    leb128(12857);
-    leb128(624485);
-    leb128(4294967295);
+fn leb128_values<W: Write>(to: &mut W) -> io::Result<()> {
+    leb128(to, 0)?;
+    leb128(to, 2)?;
+    leb128(to, 127)?;
+    leb128(to, 128)?;
+    leb128(to, 129)?;
+    leb128(to, 130)?;
+    leb128(to, 12857)?;
+    leb128(to, 624485)?;
+    leb128(to, 4294967295)
 }
 
 // Longer forms, a number of 33 bits, and forms that are cut off.
-fn leb128_refused() {
-    read_leb128(b"\x80\x00");
-    read_leb128(b"\x80\x80\x00");
-    read_leb128(b"\xff\xff\xff\xff\x1f");
-    read_leb128(b"\x80");
-    read_leb128(b"");
+fn leb128_refused<W: Write>(to: &mut W) -> io::Result<()> {
+    read_leb128(to, b"\x80\x00")?;
+    read_leb128(to, b"\x80\x80\x00")?;
+    read_leb128(to, b"\xff\xff\xff\xff\x1f")?;
+    read_leb128(to, b"\x80")?;
+    read_leb128(to, b"")
 }
 
 // A number's bytes, and the number that they read as, in so many hexadecimal digits.
-fn print_bits(name: &[u8], bytes: &[u8], n: u64, digits: usize) {
-    print(name);
-    print_bytes(bytes);
-    print(b" ");
-    io::print_hex(STDOUT_FILENO, n, digits);
-    print(b"\n");
+fn print_bits<W: Write>(
+    to: &mut W,
+    name: &[u8],
+    bytes: &[u8],
+    n: u64,
+    digits: usize,
+) -> io::Result<()> {
+    print(to, name)?;
+    print_bytes(to, bytes)?;
+    print(to, b" ")?;
+    print_hex(to, n, digits)?;
+    print(to, b"\n")
 }
 
-fn little_endian_32(v: u32) {
+fn little_endian_32<W: Write>(to: &mut W, v: u32) -> io::Result<()> {
     let mut buf = [0u8; 4];
     put_u32(&mut buf, 0, v);
-    print_bits(b"u32 ", &buf, get_u32(&buf, 0) as u64, 8)
+    print_bits(to, b"u32 ", &buf, get_u32(&buf, 0) as u64, 8)
 }
 
-fn little_endian_64(v: u64) {
+fn little_endian_64<W: Write>(to: &mut W, v: u64) -> io::Result<()> {
     let mut buf = [0u8; 8];
     put_u64(&mut buf, 0, v);
-    print_bits(b"u64 ", &buf, get_u64(&buf, 0), 16)
+    print_bits(to, b"u64 ", &buf, get_u64(&buf, 0), 16)
 }
 
 // The class that the top class rises to, or the refusal's number.
-fn print_decoded(r: DecodedChange) {
+fn print_decoded<W: Write>(to: &mut W, r: DecodedChange) -> io::Result<()> {
     match r {
-        DecodedChange::Change(_, top) => print_line(b"' good ", wide_64(top.number())),
-        DecodedChange::Refused(n) => print_line(b"' bad ", n as u64),
+        DecodedChange::Change(_, top) => print_line(to, b"' good ", wide_64(top.number())),
+        DecodedChange::Refused(n) => print_line(to, b"' bad ", n as u64),
     }
 }
 
-fn vcd(width: u32, value: &[u8]) {
-    print_count(b"vcd ", width as u64);
-    print(b" '");
-    print(value);
-    print_decoded(decode_vcd(SignalEncoding::BitVector(width), value))
+fn vcd<W: Write>(to: &mut W, width: u32, value: &[u8]) -> io::Result<()> {
+    print_count(to, b"vcd ", width as u64)?;
+    print(to, b" '")?;
+    print(to, value)?;
+    print_decoded(to, decode_vcd(SignalEncoding::BitVector(width), value))
 }
 
-fn print_raw(width: u32, claim: u32, value: &[u8]) {
-    print_count(b"raw ", width as u64);
-    print_count(b" ", claim as u64);
-    print(b" '");
-    print_bytes(value);
+fn print_raw<W: Write>(to: &mut W, width: u32, claim: u32, value: &[u8]) -> io::Result<()> {
+    print_count(to, b"raw ", width as u64)?;
+    print_count(to, b" ", claim as u64)?;
+    print(to, b" '")?;
+    print_bytes(to, value)
 }
 
-fn raw(width: u32, claim: u32, value: &[u8]) {
-    print_raw(width, claim, value);
-    print_decoded(decode_raw(SignalEncoding::BitVector(width), claim, value))
+fn raw<W: Write>(to: &mut W, width: u32, claim: u32, value: &[u8]) -> io::Result<()> {
+    print_raw(to, width, claim, value)?;
+    print_decoded(
+        to,
+        decode_raw(SignalEncoding::BitVector(width), claim, value),
+    )
 }
 
-fn vcd_values() {
-    vcd(1, b"B");
-    vcd(2, b"0b");
-    vcd(2, b"b");
-    vcd(2, b"101");
-    vcd(0, b"");
-    vcd(0, b"x");
-    vcd(0, b"xx");
+fn vcd_values<W: Write>(to: &mut W) -> io::Result<()> {
+    vcd(to, 1, b"B")?;
+    vcd(to, 2, b"0b")?;
+    vcd(to, 2, b"b")?;
+    vcd(to, 2, b"101")?;
+    vcd(to, 0, b"")?;
+    vcd(to, 0, b"x")?;
+    vcd(to, 0, b"xx")
 }
 
 // Short values: u, w and - extend, h and l do not.
-fn vcd_extended() {
-    vcd(2, b"u");
-    vcd(2, b"U");
-    vcd(3, b"w1");
-    vcd(4, b"-");
-    vcd(4, b"0bw");
-    vcd(2, b"h");
-    vcd(3, b"l1");
+fn vcd_extended<W: Write>(to: &mut W) -> io::Result<()> {
+    vcd(to, 2, b"u")?;
+    vcd(to, 2, b"U")?;
+    vcd(to, 3, b"w1")?;
+    vcd(to, 4, b"-")?;
+    vcd(to, 4, b"0bw")?;
+    vcd(to, 2, b"h")?;
+    vcd(to, 3, b"l1")
 }
 
 // A byte short, no such class, a symbol 9, and a width whose bits do not fit 32 bits.
-fn raw_values() {
-    raw(2, 2, b"");
-    raw(2, 3, b"\x00");
-    raw(2, 2, b"\x09");
-    raw(2, 2, b"\x90");
-    raw(0x40000001, 2, b"\x00");
+fn raw_values<W: Write>(to: &mut W) -> io::Result<()> {
+    raw(to, 2, 2, b"")?;
+    raw(to, 2, 3, b"\x00")?;
+    raw(to, 2, 2, b"\x09")?;
+    raw(to, 2, 2, b"\x90")?;
+    raw(to, 0x40000001, 2, b"\x00")
 }
 
-fn main() {
-    leb128_values();
-    leb128_refused();
-    little_endian_32(0x12345678);
-    little_endian_64(0x0123456789abcdef);
-    vcd_values();
-    vcd_extended();
-    raw_values();
+fn print_all<W: Write>(to: &mut W) -> io::Result<()> {
+    leb128_values(to)?;
+    leb128_refused(to)?;
+    little_endian_32(to, 0x12345678)?;
+    little_endian_64(to, 0x0123456789abcdef)?;
+    vcd_values(to)?;
+    vcd_extended(to)?;
+    raw_values(to)
+}
+
+fn main(rt: HostRuntime) -> io::Result<()> {
+    let mut to = BufWriter::new(rt.alloc(), rt.stdout())?;
+    print_all(&mut to)?;
+    to.flush()
 }

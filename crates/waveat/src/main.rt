@@ -9,41 +9,53 @@ ghost use Rattle.cursor_text.specs.At.{at_limit};
 
 use cursor_text::at_text;
 use digits::{Number, decimal};
-use libc::{STDIN_FILENO, STDOUT_FILENO};
+use std::io;
+use std::io::{Read, Write};
+use std::rt::Env;
+use text::{argument, has_argument, read_full};
 
-fn print_usage() {
-    io::write_all(STDOUT_FILENO, b"usage: waveat TIME\n");
+fn print_usage<W: Write>(to: &mut W) -> io::Result<()> {
+    to.write_all(b"usage: waveat TIME\n")
 }
 
 // The time that the argument says. On Linux an argument has at most 131,071 bytes, so any fits, with all the zeros in front of a number. A
 // longer one would come as an empty one, which is no number.
-fn time_asked() -> Number {
+fn time_asked(rt: &impl Env) -> Number {
     let mut word = [0u8; 131072];
-    let n = os::arg(1, &mut word);
+    let n = argument(rt, 1, &mut word);
     decimal(&word[..n], 18446744073709551615)
 }
 
-fn print_at(image: &[u8], t: u64, out: &mut [u8])
+fn print_at<W: Write>(to: &mut W, image: &[u8], t: u64, out: &mut [u8]) -> io::Result<()>
     requires { at_limit ≤ length out.old }
 {
     let n = at_text(image, t, out);
-    io::write_all(STDOUT_FILENO, &out[..n]);
+    to.write_all(&out[..n])
 }
 
 // One byte more than an image may have tells a longer input.
-fn print_input(t: u64) {
+fn print_input<R: Read, W: Write>(from: &mut R, to: &mut W, t: u64) -> io::Result<()> {
     let mut input = [0u8; 16385];
-    let n = io::read_full(STDIN_FILENO, &mut input);
+    let n = read_full(from, &mut input)?;
     let mut out = [0u8; 524288];
-    print_at(&input[..n], t, &mut out);
+    print_at(to, &input[..n], t, &mut out)
 }
 
-fn main() {
-    if os::arg_count() != 2 {
-        return print_usage();
+// The arguments are one.
+fn has_one(rt: &impl Env) -> bool {
+    if has_argument(rt, 1) {
+        return !has_argument(rt, 2);
     }
-    match time_asked() {
-        Number::Value(t) => print_input(t),
-        Number::None => print_usage(),
+    false
+}
+
+fn main(rt: HostRuntime) -> io::Result<()> {
+    let mut to = rt.stdout();
+    if !has_one(&rt) {
+        return print_usage(&mut to);
+    }
+    match time_asked(&rt) {
+        Number::Value(t) => print_input(&mut rt.stdin(), &mut to, t),
+        Number::None => print_usage(&mut to),
     }
 }

@@ -1,4 +1,9 @@
 // A file that an argument names, read whole.
+use std::fs::File;
+use std::io::Read;
+use std::rt::{Env, Files};
+use std::str::from_utf8;
+use text::{argument, read_full};
 
 // What reading a file answers.
 #[derive(Clone, Copy)]
@@ -9,38 +14,29 @@ pub enum Input {
     Unreadable,
 }
 
-// Reads until the buffer is full or the file ends: a read may bring less than is asked for. `io::read_full` would not tell a read that
-// fails, as that of a folder, from the end of an empty file.
-fn read_all(fd: i32, buf: &mut [u8]) -> Input {
-    let mut done = 0;
-    while done < buf.len() {
-        let got = libc::read(fd, &mut buf[done..]);
-        if got < 0 {
-            return Input::Unreadable;
-        }
-        let n = io::count(got, &buf[done..]);
-        if n == 0 {
-            return Input::Bytes(done);
-        }
-        done += n;
+// Reads until the buffer is full or the file ends. A read that fails, as that of a folder, is no end of a file.
+fn read_all<R: Read>(from: &mut R, buf: &mut [u8]) -> Input {
+    match read_full(from, buf) {
+        Ok(n) => Input::Bytes(n),
+        Err(_) => Input::Unreadable,
     }
-    Input::Bytes(done)
 }
 
-// Opens the file that argument i names. One that is longer than a path may be comes as an empty one, which names no file.
-fn open_argument(i: usize) -> i32 {
-    let mut path = io::buffer();
-    let n = os::arg(i, &mut path);
-    os::open_read(&path[..n])
+// Opens the file that argument i names. A name that is longer than a path may be comes as an empty one, which names no file; a path is text in
+// UTF-8, so any other name names none either.
+fn open_argument<R: Env + Files>(rt: &R, i: usize) -> Option<R::File> {
+    let mut path = [0u8; 4096];
+    let n = argument(rt, i, &mut path);
+    match from_utf8(&path[..n]) {
+        Ok(name) => File::open(rt, name).ok(),
+        Err(_) => None,
+    }
 }
 
 // Reads the file that argument i names to the start of the buffer.
-pub fn read_argument(i: usize, buf: &mut [u8]) -> Input {
-    let fd = open_argument(i);
-    if fd < 0 {
-        return Input::Unreadable;
+pub fn read_argument<R: Env + Files>(rt: &R, i: usize, buf: &mut [u8]) -> Input {
+    match open_argument(rt, i) {
+        Some(mut file) => read_all(&mut file, buf),
+        None => Input::Unreadable,
     }
-    let input = read_all(fd, buf);
-    libc::close(fd);
-    input
 }

@@ -4,20 +4,22 @@
 ghost use Rattle.std.specs.Prelude.{◌≤◌, length};
 ghost use Rattle.listing_text.specs.Listing.{listing_limit};
 
-use libc::{STDIN_FILENO, STDOUT_FILENO};
 use listing::listing_text;
+use std::io;
+use std::io::Write;
+use text::read_full;
 
-fn print_listing(image: &[u8], out: &mut [u8])
+fn print_listing<W: Write>(to: &mut W, image: &[u8], out: &mut [u8]) -> io::Result<()>
     requires { listing_limit ≤ length out.old }
 {
     let n = listing_text(image, out);
-    io::write_all(STDOUT_FILENO, &out[..n]);
+    to.write_all(&out[..n])
 }
 
 // One byte more than an image may have tells a longer input.
-fn main() {
+fn main(rt: HostRuntime) -> io::Result<()> {
     let mut input = [0u8; 16385];
-    let n = io::read_full(STDIN_FILENO, &mut input);
+    let n = read_full(&mut rt.stdin(), &mut input)?;
     let mut out = [0u8; 262144];
-    print_listing(&input[..n], &mut out);
+    print_listing(&mut rt.stdout(), &input[..n], &mut out)
 }

@@ -8,57 +8,62 @@ use sheet::run::{
     take_line,
 };
 use sheet::{line_end, make_call, mark_probes};
+use std::io;
+use std::io::Write;
 use text::{before, between, print, print_number};
 
 // Prints, but in a quiet run.
-fn say(run: &Run, text: &[u8]) {
+fn say<W: Write>(to: &mut W, run: &Run, text: &[u8]) -> io::Result<()> {
     if run[OWN] == 0 {
-        print(text);
+        print(to, text)?;
     }
+    Ok(())
 }
 
-fn say_answer(run: &Run) {
+fn say_answer<W: Write>(to: &mut W, run: &Run) -> io::Result<()> {
     if run[OWN] == 0 {
-        print_answer(run);
-        print(b"\n");
+        print_answer(to, run)?;
+        print(to, b"\n")?;
     }
+    Ok(())
 }
 
 fn is_understood(run: &Run) -> bool {
     run[CALL] != NOT_UNDERSTOOD
 }
 
-fn say_not_understood(run: &Run, line: u64) {
+fn say_not_understood<W: Write>(to: &mut W, run: &Run, line: u64) -> io::Result<()> {
     if run[OWN] == 0 {
-        print(b"line ");
-        print_number(line);
-        print(b": not understood\n");
+        print(to, b"line ")?;
+        print_number(to, line)?;
+        print(to, b": not understood\n")?;
     }
+    Ok(())
 }
 
 // Says that a call is not handed on.
-fn turn_away(run: &Run, text: &[u8]) -> bool {
-    say(run, text);
-    false
+fn turn_away<W: Write>(to: &mut W, run: &Run, text: &[u8]) -> io::Result<bool> {
+    say(to, run, text)?;
+    Ok(false)
 }
 
 // Whether a line's call is handed on: a start until one is accepted, which leaves a B that is not 0; any other call from then on.
-fn is_handed_on(run: &Run) -> bool {
+fn is_handed_on<W: Write>(to: &mut W, run: &Run) -> io::Result<bool> {
     let call = run[CALL];
     let started = run[LIMIT] != 0;
     if call == NOTHING {
-        return false;
+        return Ok(false);
     }
     if call != START {
         if !started {
-            return turn_away(run, b"not started\n");
+            return turn_away(to, run, b"not started\n");
         }
-        return true;
+        return Ok(true);
     }
     if started {
-        return turn_away(run, b"already started\n");
+        return turn_away(to, run, b"already started\n");
     }
-    true
+    Ok(true)
 }
 
 // The records of a start, with the probes that were named for them.
@@ -86,16 +91,17 @@ fn value<'a>(run: &Run, bytes: &'a [u8], line: &'a [u8]) -> &'a [u8] {
 
 // Makes the call of a line, if it has one, and answers it. The bytes of a raw value stand in memory of their own: a line of a sheet has
 // fewer than 32,768 of them.
-fn take_call(
+fn take_call<W: Write>(
+    to: &mut W,
     run: &mut Run,
     line: &[u8],
     records: &mut [u64],
     times: &mut [u64],
     work: &mut [u8],
     image: &mut [u8],
-) {
-    if !is_handed_on(&*run) {
-        return;
+) -> io::Result<()> {
+    if !is_handed_on(to, &*run)? {
+        return Ok(());
     }
     put_start(run, records, line);
     let mut bytes = [0u8; 32768];
@@ -103,7 +109,7 @@ fn take_call(
     let handed = value(&*run, before(&bytes, n), line);
     make_call(run, handed, records, times, work, image);
     mark_probes(run, &*records);
-    say_answer(&*run)
+    say_answer(to, &*run)
 }
 
 // The total of the image that a finish left; 0 before.
@@ -116,14 +122,15 @@ fn total(run: &Run) -> usize {
 
 // Takes each line, and answers the total of the image that a finish left; 0 where there is none to show, or a line is not understood,
 // which ends the sheet.
-pub fn take_lines(
+pub fn take_lines<W: Write>(
+    to: &mut W,
     run: &mut Run,
     sheet: &[u8],
     records: &mut [u64],
     times: &mut [u64],
     work: &mut [u8],
     image: &mut [u8],
-) -> usize {
+) -> io::Result<usize> {
     let mut at = 0;
     let mut number: u64 = 0;
     while at < sheet.len() {
@@ -133,10 +140,10 @@ pub fn take_lines(
         number += 1;
         take_line(run, line);
         if !is_understood(&*run) {
-            say_not_understood(&*run, number);
-            return 0;
+            say_not_understood(to, &*run, number)?;
+            return Ok(0);
         }
-        take_call(run, line, records, times, work, image);
+        take_call(to, run, line, records, times, work, image)?;
     }
-    total(&*run)
+    Ok(total(&*run))
 }

@@ -6,27 +6,29 @@
 
 mod lines;
 
-use libc::STDIN_FILENO;
 use line::words::spells;
 use lines::take_lines;
 use sheet::answer::print_image;
 use sheet::run::{OWN, fresh_run};
-use text::{before, print};
+use std::io;
+use std::io::{BufWriter, Read, Write};
+use std::rt::Env;
+use text::{argument, before, has_argument, print, read_full};
 
 fn zeros() -> [u8; 1048576] {
     [0u8; 1048576]
 }
 
 // The image's bytes, alone or as digits on a line.
-fn show(image: &[u8], alone: bool) {
+fn show<W: Write>(to: &mut W, image: &[u8], alone: bool) -> io::Result<()> {
     if alone {
-        return print(image);
+        return print(to, image);
     }
-    print_image(image)
+    print_image(to, image)
 }
 
 // Makes the calls in memory of its own, and shows the image that they leave.
-fn take_sheet(sheet: &[u8], quiet: bool) {
+fn take_sheet<W: Write>(to: &mut W, sheet: &[u8], quiet: bool) -> io::Result<()> {
     let mut run = fresh_run(65535, 1048576, 1048576);
     if quiet {
         run[OWN] = 1;
@@ -36,46 +38,54 @@ fn take_sheet(sheet: &[u8], quiet: bool) {
     let mut work = zeros();
     let mut image = zeros();
     let total = take_lines(
+        to,
         &mut run,
         sheet,
         &mut records,
         &mut times,
         &mut work,
         &mut image,
-    );
+    )?;
     if 0 < total {
-        show(before(&image, total), quiet);
+        show(to, before(&image, total), quiet)?;
     }
+    Ok(())
 }
 
 // Takes the sheet on standard input: at most 65,536 bytes, of which one more is asked for.
-fn replay(quiet: bool) {
+fn replay<R: Read, W: Write>(from: &mut R, to: &mut W, quiet: bool) -> io::Result<()> {
     let mut sheet = [0u8; 65537];
-    let n = io::read_full(STDIN_FILENO, &mut sheet);
+    let n = read_full(from, &mut sheet)?;
     if n <= 65536 {
-        return take_sheet(before(&sheet, n), quiet);
+        return take_sheet(to, before(&sheet, n), quiet);
     }
     if !quiet {
-        print(b"sheet too long\n");
+        print(to, b"sheet too long\n")?;
     }
+    Ok(())
 }
 
 // The one argument is `image`.
-fn image_alone() -> bool {
-    let mut argument = [0u8; 6];
-    let n = os::arg(1, &mut argument);
-    spells(before(&argument, n), b"image")
+fn image_alone(rt: &impl Env) -> bool {
+    let mut word = [0u8; 6];
+    let n = argument(rt, 1, &mut word);
+    spells(before(&word, n), b"image")
 }
 
-fn main() {
-    let count = os::arg_count();
-    if count < 2 {
-        return replay(false);
+fn replay_as_asked<W: Write>(rt: &(impl Env + Input), to: &mut W) -> io::Result<()> {
+    if !has_argument(rt, 1) {
+        return replay(&mut rt.reader(), to, false);
     }
-    if count == 2 {
-        if image_alone() {
-            return replay(true);
+    if !has_argument(rt, 2) {
+        if image_alone(rt) {
+            return replay(&mut rt.reader(), to, true);
         }
     }
-    print(b"usage: waverec [image]\n");
+    print(to, b"usage: waverec [image]\n")
+}
+
+fn main(rt: HostRuntime) -> io::Result<()> {
+    let mut to = BufWriter::new(rt.alloc(), rt.stdout())?;
+    replay_as_asked(&rt, &mut to)?;
+    to.flush()
 }
