@@ -125,7 +125,7 @@ unfolding all_from
 later-after g limit ks end [] l m h f = refl
 later-after g limit ks end (b ∷ bs) l m h f =
     ap (λ (x : Load). all_from g x bs) (block-after g l m b h)
-    ∙ later-after g limit ks _ bs l (all_block g m b) (omega (arith, joined_length m.times b.times, (overlap-both m.times b.times).0, f.1.0.any)) f.1.1
+    ∙ later-after g limit ks (some (last_or 0 b.times)) bs l (all_block g m b) (omega (arith, joined_length m.times b.times, (overlap-both m.times b.times).0, f.1.0.any)) f.1.1
 
 pub all_after : (g limit : ℕ) (ks : List SignalEncoding) (end : Option ℕ) (bs : List (Block (List Entry))) (l : Load) → BlocksFit limit ks end bs
     → all_from g l bs ≡ join_load l (all_from g no_load bs)

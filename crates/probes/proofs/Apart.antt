@@ -93,12 +93,12 @@ module _ (settings : Settings) (ks : List SignalEncoding) (probe : ℕ → ℕ) 
 
   record Both (c d : Call) (m n : Memory) (p q : Model) : Type 0 where
     twin : Twin probe (next m p c) (next n q d)
-    by_one_lem : by_one c ≡ by_one d
+    same_one : by_one c ≡ by_one d
     reply : by_one c ≡ true → (step m c).reply ≡ (step n d).reply
 
   same-both : (c : Call) (m n : Memory) (p q : Model) (b : Bool) → is_refusal (step m c).reply ≡ b → is_refusal (step n c).reply ≡ b
       → (by_one c ≡ true → (step m c).reply ≡ (step n c).reply) → Twin probe p q → Both c c m n p q
-  same-both c m n p q b e f r t = record { twin = rw (e, f) (same-call settings ks probe p q c b t); by_one_lem = refl; reply = r }
+  same-both c m n p q b e f r t = record { twin = rw (e, f) (same-call settings ks probe p q c b t); same_one = refl; reply = r }
 
   same-one : (c : Call) (m n : Memory) (p q : Model) (h k : History) → Here m p h → Here n q k → Twin probe p q → Roomy (step m c).reply → Roomy (step n c).reply
       → Both c c m n p q
@@ -116,7 +116,7 @@ module _ (settings : Settings) (ks : List SignalEncoding) (probe : ℕ → ℕ) 
 
   value-one : (g : ℕ) (a b : Given) (m n : Memory) (p q : Model) (h k : History) → Here m p h → Here n q k → Twin probe p q
       → Roomy (step m (change 0 g a)).reply → Roomy (step n (change 0 g b)).reply → Both (change 0 g a) (change 0 g b) m n p q
-  value-one g a b m n p q h k u w v x y = record { twin = go (skip_of p.skips 0).on refl; by_one_lem = refl; reply = λ z. no (sym z) }
+  value-one g a b m n p q h k u w v x y = record { twin = go (skip_of p.skips 0).on refl; same_one = refl; reply = λ z. no (sym z) }
     where
       first : (step m (change 0 g a)).reply ≡ change_reply ks (probe g) p 0 g a
       first = change-reply m p h 0 g a u x
@@ -173,7 +173,7 @@ module _ (settings : Settings) (ks : List SignalEncoding) (probe : ℕ → ℕ) 
     first = e.first;
     second = e.second;
     twin = e.twin;
-    answers = to_one_lem (by_one c) (by_one d) (step m c).reply (step n d).reply _ _ o.by_one o.reply e.answers;
+    answers = to_one_lem (by_one c) (by_one d) (step m c).reply (step n d).reply _ _ o.same_one o.reply e.answers;
   }
 
   all-calls : (cs ds : List Call) → Alike cs ds → (m n : Memory) (p q : Model) (h k : History) → Fitting cs → Fitting ds → Here m p h → Here n q k → Twin probe p q

@@ -1,8 +1,8 @@
 -- One turn more is a part more (`turns_next`) and one record changed more (`first_next`).
-use Prim.Native.Nat.{ℕ, ◌+◌, ◌<◌}
-use mathlib.Core.Path.{◌≡◌, refl, sym, ap₂, ◌∙◌}
+use Prim.Native.Nat.{◌<◌}
+use mathlib.Core.Path.{sym, ap₂, ◌∙◌}
 use native.Mathlib.Omega.{arith}
-use lib.ListN.{length, get_or}
+use lib.ListN.{length}
 use Rattle.value.specs.declared.states.States.TheVariants.{Two}
 use Rattle.signal.specs.declared.kind.SignalEncoding.TheVariants.{Absent}
 use Rattle.recording.specs.declared.SignalRecord.{SignalRecord}

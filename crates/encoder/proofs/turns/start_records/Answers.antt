@@ -1,17 +1,16 @@
 -- One record more is one kind more (`kinds-next`) and one record changed more (`first_next`).
-use Prim.Native.Nat.{ℕ, ◌+◌, ◌<◌}
-use mathlib.Core.Path.{◌≡◌, refl, sym, ap₂, ◌∙◌}
+use Prim.Native.Nat.{ℕ, ◌<◌}
+use mathlib.Core.Path.{sym, ap₂, ◌∙◌}
 use mathlib.Core.List.{List}
 use native.Mathlib.Omega.{arith}
-use lib.ListN.{length, get_or}
+use lib.ListN.{length}
 use Rattle.value.specs.declared.states.States.TheVariants.{Two}
 use Rattle.signal.specs.declared.kind.SignalEncoding.TheVariants.{Absent}
 use Rattle.recording.specs.declared.SignalRecord.{SignalRecord}
 use Rattle.recording.specs.Memory.{record_of}
 use Rattle.recording.specs.Step.{fresh}
-use Rattle.head.specs.Kinds.{kind_put, kinds_put}
+use Rattle.head.specs.Kinds.{kind_put}
 use Rattle.head.proofs.HeadLaws.{kinds-none, kinds-next}
-use Rattle.cut.specs.Turns.{first_by}
 use Rattle.cut.proofs.TurnLaws.{first-none}
 use Rattle.encoder.proofs.TurnLaws.{same-record, changed-next}
 use Rattle.encoder.proofs.turns.start_records.Goals as goal

@@ -11,7 +11,7 @@ overflow_cast-bytes c = Fits-under w64 _ 256 (c.shared_slice_known-in-loop-i-1.g
 pub loop-i-preserved : goal.loop-i-preserved
 loop-i-preserved c =
     let l = c.loop-i in
-    rw c.wrapping_add_u64-sum.ensures (sym (sum-turn l.sum l.i _ (omega arith)) ∙ l.invariant)
+    rw c.wrapping_add_u64-sum.ensures.value (sym (sum-turn l.sum l.i _ (omega arith)) ∙ l.invariant)
 
 pub returns : goal.returns
 returns c = let l = c.loop-i in sym (sum-end l.sum l.i _ (omega arith)) ∙ l.invariant

@@ -33,7 +33,12 @@ pub slice_bounds-put_entry-end : goal.slice_bounds-put_entry-end
 slice_bounds-put_entry-end c = let t = at_turn (goal.at.slice_bounds-put_entry-end c).In-loop-i in search (rules, t.inside)
 
 pub put_entry-p-requires : goal.put_entry-p-requires
-put_entry-p-requires c = let l = c.loop-i in let t = at_turn (goal.at.put_entry-p-requires c).In-loop-i in let it = (t.is, omega (arith, l.invariant.2, c.requires.1), left-room _ (left_as t.lines l.invariant.4) c.requires.2) in record { reads = it.0; next_in_bounds = it.1 }
+put_entry-p-requires c =
+    let l = c.loop-i in let t = at_turn (goal.at.put_entry-p-requires c).In-loop-i in (
+      t.is,
+      omega (arith, l.invariant.2, c.requires.1),
+      left-room _ (left_as t.lines l.invariant.4) c.requires.2,
+    )
 
 pub loop-i-preserved : goal.loop-i-preserved
 loop-i-preserved c =

@@ -6,7 +6,9 @@ use Rattle.listing_text.specs.Listing.{kind_words}
 use Rattle.listing_text.proofs.lines.put_kind.Goals as goal
 
 pub put_vector-requires : goal.put_vector-requires
-put_vector-requires c = let s = c in let it = room_as (ap (λ (k : SignalEncoding). kind_words k s.args.class s.args.changes) c.in-BitVector.is) s.requires in record { d_le_max_delta = it.0; src_value = it.1.0; src_in_bounds = it.1.1 }
+put_vector-requires c =
+    let s = c in
+    room_as (ap (λ (k : SignalEncoding). kind_words k s.args.class s.args.changes) c.in-BitVector.is) s.requires
 
 pub put_named-requires : goal.put_named-requires
 put_named-requires c =

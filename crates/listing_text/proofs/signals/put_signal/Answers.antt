@@ -57,7 +57,7 @@ pub put_entries-requires : goal.put_entries-requires
 put_entries-requires c =
     let s = c in
     let h = loaded-read (goal.at.put_entries-requires c).After-number in
-    (h.there, omega (arith, h.wide, s.pre.2.2), room-rest c.put_signal_line-p.ensures (room_as h.lines s.pre.3))
+    (h.there, omega (arith, h.wide, s.requires.2.2), room-rest c.put_signal_line-p.ensures (room_as h.lines s.requires.3))
 
 pub put_signal_line-requires : goal.put_signal_line-requires
 put_signal_line-requires c =

@@ -13,10 +13,14 @@ before_last : (c : goal.Joined-symbol-ge4) → c.if-symbol-ge4.class ≡ pick (l
 before_last c =
     let s = c.args.symbol in
     let first : c.if-symbol-ge2.class ≡ pick (leb 2 s) 1 0 =
-        elim c.if-symbol-ge2.branch [ then-symbol-ge2 w ↦ w.class-is ∙ rw (le-leb 2 s w.if-symbol-ge2.true) refl
-                                    | else-symbol-ge2 w ↦ w.class-is ∙ rw (lt-leb 2 s w.if-symbol-ge2.false) refl ] in
-    elim c.if-symbol-ge4.branch [ then-symbol-ge4 w ↦ w.class-is ∙ rw (le-leb 4 s w.if-symbol-ge4.true) refl
-                                | else-symbol-ge4 w ↦ w.class-is ∙ rw (lt-leb 4 s w.if-symbol-ge4.false) first ]
+    elim c.if-symbol-ge2.branch [
+      | then-symbol-ge2 w ↦ w.class-is ∙ rw (le-leb 2 s w.if-symbol-ge2.true) refl
+      | else-symbol-ge2 w ↦ w.class-is ∙ rw (lt-leb 2 s w.if-symbol-ge2.false) refl
+    ] in
+    elim c.if-symbol-ge4.branch [
+      | then-symbol-ge4 w ↦ w.class-is ∙ rw (le-leb 4 s w.if-symbol-ge4.true) refl
+      | else-symbol-ge4 w ↦ w.class-is ∙ rw (lt-leb 4 s w.if-symbol-ge4.false) first
+    ]
 
 pub returns-then-symbol-ge9 : goal.returns-then-symbol-ge9
 returns-then-symbol-ge9 c =
