@@ -221,7 +221,8 @@ module _ (limit : ℕ) (ks : List SignalEncoding) (later : Bool) (end : ℕ) (s 
   pub block-step : (x : NextBlock) (p u : ℕ) → x ≡ next_block_at limit ks (end_of later end) s at → x ≡ At p u → Step p u
   unfolding next_block_at
   block-step x p u e f =
-      by (leb (at + (12 + 4 * length ks)) (length s)) (eqb (length ks) (signals_in s at)) (leb (block_size (length ks) (times_in s at) 0) (size_in s at)) refl (is_yes (times_fit? limit (times_in s at)))
+      by (leb (at + (12 + 4 * length ks)) (length s)) (eqb (length ks) (signals_in s at)) (leb (block_size (length ks) (times_in s at) 0) (size_in s at)) refl
+      (is_yes (times_fit? limit (times_in s at)))
       (leb (at + size_in s at) (length s)) refl (Yes (end_of later end) ks s (at + (12 + 4 * length ks)) (times_in s at)) (blockParts limit ks (end_of later end) s at y inside) refl
       (block-get limit ks (end_of later end) s at y inside) (ap (next_block (length s)) (sym (block-get limit ks (end_of later end) s at y inside)) ∙ sym e ∙ f)
     where

@@ -86,9 +86,9 @@ mixed_image =
     ++ (0x02 ∷ 0x05 ∷ 0x06 ∷ 0x01 ∷ 0x06 ∷ 0x00 ∷ 0x01 ∷ 0x00 ∷ 0x01 ∷ [])))))))
 
 pub mixed-left : left_by (settings_of 2 4 1) mixed mixed_calls 153 ≡ mixed_image
-unfolding groups leb_of le unle symbol_of class_of_all all_symbols symbols_in last_or vcd_bit text_of extended text_symbols number_of digits packed unpacked raw_symbols decode change_bytes les
-    data_of offsets_from block_bytes head_bytes way_of skip_of with_skip skip_begun skip_ended skip_same skip_counted items_of gather any_bad start_tests state_tests parts_from cut_of time_of change_of finish_of start_of
-    step run
+unfolding groups leb_of le unle symbol_of class_of_all all_symbols symbols_in last_or vcd_bit text_of extended text_symbols number_of digits packed unpacked raw_symbols decode change_bytes les data_of
+    offsets_from block_bytes head_bytes way_of skip_of with_skip skip_begun skip_ended skip_same skip_counted items_of gather any_bad start_tests state_tests parts_from cut_of time_of change_of
+    finish_of start_of step run
 mixed-left = refl
 
 -- the list meets demand 3's premises
@@ -183,9 +183,9 @@ mixed-fits = (
 )
 
 pub mixed-recorded : Recorded (settings_of 2 4 1) mixed mixed_calls 153
-unfolding groups leb_of le unle symbol_of class_of_all all_symbols symbols_in last_or vcd_bit text_of extended text_symbols number_of digits packed unpacked raw_symbols decode change_bytes les
-    data_of offsets_from block_bytes head_bytes way_of skip_of with_skip skip_begun skip_ended skip_same skip_counted items_of gather any_bad start_tests state_tests parts_from cut_of time_of change_of finish_of start_of
-    step run
+unfolding groups leb_of le unle symbol_of class_of_all all_symbols symbols_in last_or vcd_bit text_of extended text_symbols number_of digits packed unpacked raw_symbols decode change_bytes les data_of
+    offsets_from block_bytes head_bytes way_of skip_of with_skip skip_begun skip_ended skip_same skip_counted items_of gather any_bad start_tests state_tests parts_from cut_of time_of change_of
+    finish_of start_of step run
 mixed-recorded = record { lent = mixed-lent; fitting = mixed-fits; start = refl; end = refl }
 
 abbrev mixed_replies : List Reply
@@ -194,9 +194,9 @@ mixed_replies =
     ∷ say taken ∷ say recorded ∷ say recorded ∷ calls.refuse 6 ∷ calls.refuse 4 ∷ say recorded ∷ say recorded ∷ []
 
 pub mixed-replies : let r = ran_from (settings_of 2 4 1) mixed mixed_calls in (r.replies ≡ mixed_replies) × ((step r.last finish).memory.state.skips.zero.count ≡ 2)
-unfolding groups leb_of le unle symbol_of class_of_all all_symbols symbols_in last_or vcd_bit text_of extended text_symbols number_of digits packed unpacked raw_symbols decode change_bytes les
-    data_of offsets_from block_bytes head_bytes way_of skip_of with_skip skip_begun skip_ended skip_same skip_counted items_of gather any_bad start_tests state_tests parts_from cut_of time_of change_of finish_of start_of
-    step run
+unfolding groups leb_of le unle symbol_of class_of_all all_symbols symbols_in last_or vcd_bit text_of extended text_symbols number_of digits packed unpacked raw_symbols decode change_bytes les data_of
+    offsets_from block_bytes head_bytes way_of skip_of with_skip skip_begun skip_ended skip_same skip_counted items_of gather any_bad start_tests state_tests parts_from cut_of time_of change_of
+    finish_of start_of step run
 mixed-replies = (refl, refl)
 
 -- in edition 2 the equal time ends the skip, so the change of signal 9 is refused with 4: another count, and the same image
@@ -207,9 +207,9 @@ replies_of_two =
 
 pub mixed-in-two : let r = ran_from (settings_of 2 4 2) mixed mixed_calls in
     (r.replies ≡ replies_of_two) × ((step r.last finish).memory.state.skips.zero.count ≡ 1) × (left_by (settings_of 2 4 2) mixed mixed_calls 153 ≡ mixed_image)
-unfolding groups leb_of le unle symbol_of class_of_all all_symbols symbols_in last_or vcd_bit text_of extended text_symbols number_of digits packed unpacked raw_symbols decode change_bytes les
-    data_of offsets_from block_bytes head_bytes way_of skip_of with_skip skip_begun skip_ended skip_same skip_counted items_of gather any_bad start_tests state_tests parts_from cut_of time_of change_of finish_of start_of
-    step run
+unfolding groups leb_of le unle symbol_of class_of_all all_symbols symbols_in last_or vcd_bit text_of extended text_symbols number_of digits packed unpacked raw_symbols decode change_bytes les data_of
+    offsets_from block_bytes head_bytes way_of skip_of with_skip skip_begun skip_ended skip_same skip_counted items_of gather any_bad start_tests state_tests parts_from cut_of time_of change_of
+    finish_of start_of step run
 mixed-in-two = (refl, refl, refl)
 
 -- the history, fed which of these are refusals: the same answers and count; times, kept changes and classes
@@ -217,14 +217,16 @@ abbrev mixed_told : Telling
 mixed_told = tell_all (kinds_of mixed.records) 1 no_history mixed_calls (refusals mixed_replies)
 
 pub mixed-told : (mixed_told.answers ≡ heard mixed_replies) × (mixed_told.last.skips.zero.count ≡ 2) × (mixed_told.last.times ≡ 1 ∷ 2 ∷ 3 ∷ [])
-unfolding symbol_of class_of_all all_symbols symbols_in last_or vcd_bit text_of extended text_symbols number_of digits unpacked raw_symbols decode way_of tell tell_all same list_of kept_after kept top_of
+unfolding symbol_of class_of_all all_symbols symbols_in last_or vcd_bit text_of extended text_symbols number_of digits unpacked raw_symbols decode way_of tell tell_all same list_of kept_after kept
+    top_of
 mixed-told = (refl, refl, refl)
 
 pub mixed-kept : (kept_of mixed_told.last 0 ≡ entry 0 (symbols (1 ∷ 2 ∷ [])) ∷ entry 2 (symbols (0 ∷ 1 ∷ [])) ∷ [])
     × (kept_of mixed_told.last 1 ≡ entry 0 happened ∷ entry 2 happened ∷ [])
     × (kept_of mixed_told.last 2 ≡ entry 1 (bits 0x8000000000000000) ∷ entry 1 (bits 0) ∷ [])
     × (class_of mixed_told.last 0 ≡ 2) × (class_of mixed_told.last 1 ≡ 0) × (class_of mixed_told.last 2 ≡ 0)
-unfolding symbol_of class_of_all all_symbols symbols_in last_or vcd_bit text_of extended text_symbols number_of digits unpacked raw_symbols decode way_of tell tell_all same list_of kept_after kept top_of
+unfolding symbol_of class_of_all all_symbols symbols_in last_or vcd_bit text_of extended text_symbols number_of digits unpacked raw_symbols decode way_of tell tell_all same list_of kept_after kept
+    top_of
 mixed-kept = (refl, refl, refl, refl, refl, refl)
 
 -- the image loads as these: at width 2, C Nine, a class byte precedes one byte
@@ -272,23 +274,23 @@ sames-fit =
     (ten, (timed 5 (omega arith), (one-fits, (ten, (zero-fits, (ten, (one-fits, (nine, (nine, (zero-fits, tt))))))))))
 
 pub return-recorded : Recorded (settings_of 4 1 2) returning sames 47
-unfolding groups leb_of le unle symbol_of class_of_all all_symbols symbols_in last_or vcd_bit text_of extended text_symbols number_of digits packed unpacked raw_symbols decode change_bytes les
-    data_of offsets_from block_bytes head_bytes way_of skip_of with_skip skip_begun skip_ended skip_same skip_counted items_of gather any_bad start_tests state_tests parts_from cut_of time_of change_of finish_of start_of
-    step run
+unfolding groups leb_of le unle symbol_of class_of_all all_symbols symbols_in last_or vcd_bit text_of extended text_symbols number_of digits packed unpacked raw_symbols decode change_bytes les data_of
+    offsets_from block_bytes head_bytes way_of skip_of with_skip skip_begun skip_ended skip_same skip_counted items_of gather any_bad start_tests state_tests parts_from cut_of time_of change_of
+    finish_of start_of step run
 return-recorded = record { lent = returning-lent; fitting = sames-fit; start = refl; end = refl }
 
 pub return-left : left_by (settings_of 4 1 2) returning sames 47 ≡ return_image
-unfolding groups leb_of le unle symbol_of class_of_all all_symbols symbols_in last_or vcd_bit text_of extended text_symbols number_of digits packed unpacked raw_symbols decode change_bytes les
-    data_of offsets_from block_bytes head_bytes way_of skip_of with_skip skip_begun skip_ended skip_same skip_counted items_of gather any_bad start_tests state_tests parts_from cut_of time_of change_of finish_of start_of
-    step run
+unfolding groups leb_of le unle symbol_of class_of_all all_symbols symbols_in last_or vcd_bit text_of extended text_symbols number_of digits packed unpacked raw_symbols decode change_bytes les data_of
+    offsets_from block_bytes head_bytes way_of skip_of with_skip skip_begun skip_ended skip_same skip_counted items_of gather any_bad start_tests state_tests parts_from cut_of time_of change_of
+    finish_of start_of step run
 return-left = refl
 
 pub return-told : let h = history_of (settings_of 4 1 2) returning sames in
     (h.answers ≡ taken ∷ back ∷ skipped ∷ calls.same ∷ recorded ∷ calls.same ∷ recorded ∷ back ∷ back ∷ skipped ∷ [])
     × (h.last.times ≡ 10 ∷ []) × (h.last.skips.zero.count ≡ 2) × (kept_of h.last 0 ≡ entry 0 (symbols (0 ∷ [])) ∷ entry 0 (symbols (1 ∷ [])) ∷ [])
-unfolding groups leb_of le unle symbol_of class_of_all all_symbols symbols_in last_or vcd_bit text_of extended text_symbols number_of digits packed unpacked raw_symbols decode change_bytes les
-    data_of offsets_from block_bytes head_bytes way_of skip_of with_skip skip_begun skip_ended skip_same skip_counted items_of gather any_bad start_tests state_tests parts_from cut_of time_of change_of finish_of start_of
-    step run tell tell_all same list_of kept_after kept
+unfolding groups leb_of le unle symbol_of class_of_all all_symbols symbols_in last_or vcd_bit text_of extended text_symbols number_of digits packed unpacked raw_symbols decode change_bytes les data_of
+    offsets_from block_bytes head_bytes way_of skip_of with_skip skip_begun skip_ended skip_same skip_counted items_of gather any_bad start_tests state_tests parts_from cut_of time_of change_of
+    finish_of start_of step run tell tell_all same list_of kept_after kept
 return-told = (refl, refl, refl, refl)
 
 pub return-loads : (open_of return_image ≡ true) × (table_of return_image (9 ∷ []) ≡ table_after (counted 1) (10 ∷ []))

@@ -79,7 +79,8 @@ content-there (BitVector zero) d (bits b) a r l n f e q = absurd f
 content-there (BitVector (suc w)) d happened a r l n f e q = absurd f
 content-there (BitVector (suc zero)) d (symbols s) a r l n f e q = ap symbols (sym (one-element s f.0))
 content-there (BitVector (suc (suc w))) d (symbols s) a r l n f e q =
-    rw (number_of s) (ap symbols (wide-content (suc (suc w)) (a ++ leb_of (d * 4 + class_of_all s)) r l s n f.0 f.1 (e ∙ regrouped a (leb_of (d * 4 + class_of_all s)) (packed (class_of_all s) s) r) q))
+    rw (number_of s)
+    (ap symbols (wide-content (suc (suc w)) (a ++ leb_of (d * 4 + class_of_all s)) r l s n f.0 f.1 (e ∙ regrouped a (leb_of (d * 4 + class_of_all s)) (packed (class_of_all s) s) r) q))
 content-there (BitVector (suc w)) d (bits b) a r l n f e q = absurd f
 content-there Real d happened a r l n f e q = absurd f
 content-there Real d (symbols s) a r l n f e q = absurd f

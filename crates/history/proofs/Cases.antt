@@ -81,7 +81,8 @@ unfolding last_or decode way_of tell tell_all same list_of kept_after kept
 zeros_differ = (refl, refl)
 
 -- a raw value that repeats the change before it is not kept, and its claim counts for the class
-pub claim-counts : let h = (tell_all (BitVector 1 ∷ []) 1 no_history (time 0 1 ∷ change 0 0 (vcd (49 ∷ [])) ∷ time 0 2 ∷ change 0 0 (raw 2 (0x01 ∷ [])) ∷ []) (false ∷ false ∷ false ∷ false ∷ [])).last in
+pub claim-counts : let h =
+    (tell_all (BitVector 1 ∷ []) 1 no_history (time 0 1 ∷ change 0 0 (vcd (49 ∷ [])) ∷ time 0 2 ∷ change 0 0 (raw 2 (0x01 ∷ [])) ∷ []) (false ∷ false ∷ false ∷ false ∷ [])).last in
     (kept_of h 0 ≡ entry 0 (symbols (1 ∷ [])) ∷ []) × (class_of h 0 ≡ 2)
 unfolding symbol_of class_of_all symbols_in last_or vcd_bit number_of digits unpacked raw_symbols all_symbols decode way_of tell tell_all same list_of kept_after kept top_of
 claim-counts = (refl, refl)

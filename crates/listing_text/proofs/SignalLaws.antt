@@ -134,7 +134,8 @@ unfolding entry_lines
 lines-absent g k l ke ee = rw (ke, ee) (append-nil (signal_line g Absent 0 0))
 
 -- only of an absent one is loading refused
-pub signal-absent : (b : List ℕ) (g : ℕ) (k : SignalEncoding) (n : ℕ) (index bytes i₀ b₀ out : List ℕ) → Bytes b → Taken b → g < length (image_in b).kinds → Enough i₀ b₀ out → k ≡ kind_at (image_in b) g
+pub signal-absent : (b : List ℕ) (g : ℕ) (k : SignalEncoding) (n : ℕ) (index bytes i₀ b₀ out : List ℕ) → Bytes b → Taken b
+    → g < length (image_in b).kinds → Enough i₀ b₀ out → k ≡ kind_at (image_in b) g
     → load_after (refuse n) index bytes ≡ load_in (image_in b) g i₀ b₀ → signal_lines g (kind_at (image_in b) g) (loads g (image_in b).blocks) ≡ signal_line g k 0 0
 signal-absent b g k n index bytes i₀ b₀ out y o h room ke e = by (unknown_signal (image_in b) g) refl
   where

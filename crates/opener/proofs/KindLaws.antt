@@ -52,7 +52,8 @@ module _ (c : ℕ) (s : List ℕ) (at : ℕ) where
   one_more false u k l r q = refl
 
   kinds-turn : at + 4 ≤ length s → (repeat (suc c) kind_form).get (drop at s)
-      ≡ and_then (got_if (pick (known_kind (kind_from (number_in s at))) (some (kind_from (number_in s at))) none) (drop (at + 4) s)) (λ a r. and_then ((repeat c kind_form).get r) (λ l q. got (a ∷ l) q))
+      ≡ and_then (got_if (pick (known_kind (kind_from (number_in s at))) (some (kind_from (number_in s at))) none) (drop (at + 4) s))
+      (λ a r. and_then ((repeat c kind_form).get r) (λ l q. got (a ∷ l) q))
   kinds-turn h =
       repeat-turn c kind_form (drop at s)
       ∙ ap (λ (g : Got ℕ). and_then (and_then g (λ a r. got_if (kind_of a) r)) (λ a r. and_then ((repeat c kind_form).get r) (λ l q. got (a ∷ l) q))) (uint-there 4 s at h)

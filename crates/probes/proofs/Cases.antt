@@ -95,13 +95,13 @@ unfolding Fitting
 bad-fits = ((omega arith, omega arith), ((omega arith, omega arith, one 113 (omega arith)), ((omega arith, omega arith, one 49 (omega arith)), tt)))
 
 good-recorded : Recorded (settings_of 2 2 1) shared (lists good) 56
-unfolding groups leb_of le unle symbol_of class_of_all symbols_in last_or vcd_bit decode change_bytes les data_of offsets_from block_bytes head_bytes way_of skip_of with_skip skip_begun skip_ended skip_same
-    skip_counted items_of gather any_bad start_tests state_tests parts_from cut_of time_of change_of finish_of start_of step run to_one
+unfolding groups leb_of le unle symbol_of class_of_all symbols_in last_or vcd_bit decode change_bytes les data_of offsets_from block_bytes head_bytes way_of skip_of with_skip skip_begun skip_ended
+    skip_same skip_counted items_of gather any_bad start_tests state_tests parts_from cut_of time_of change_of finish_of start_of step run to_one
 good-recorded = record { lent = shared-lent; fitting = good-fits; start = refl; end = refl }
 
 bad-recorded : Recorded (settings_of 2 2 1) shared (lists bad) 54
-unfolding groups leb_of le unle symbol_of class_of_all symbols_in last_or vcd_bit decode change_bytes les data_of offsets_from block_bytes head_bytes way_of skip_of with_skip skip_begun skip_ended skip_same
-    skip_counted items_of gather any_bad start_tests state_tests parts_from cut_of time_of change_of finish_of start_of step run to_one
+unfolding groups leb_of le unle symbol_of class_of_all symbols_in last_or vcd_bit decode change_bytes les data_of offsets_from block_bytes head_bytes way_of skip_of with_skip skip_begun skip_ended
+    skip_same skip_counted items_of gather any_bad start_tests state_tests parts_from cut_of time_of change_of finish_of start_of step run to_one
 bad-recorded = record { lent = shared-lent; fitting = bad-fits; start = refl; end = refl }
 
 -- an answer that is no refusal, and a refusal by another number
@@ -112,8 +112,8 @@ six : (n : ℕ) → (6 ≡ n → ⊥) → refuse 6 ≡ refuse n → ⊥
 six n f e = let z : 6 ≡ n = cc in f z
 
 pub pair : Pair (settings_of 2 2 1) shared (lists good) (lists bad) 56 54
-unfolding groups leb_of le unle symbol_of class_of_all symbols_in last_or vcd_bit decode change_bytes les data_of offsets_from block_bytes head_bytes way_of skip_of with_skip skip_begun skip_ended skip_same
-    skip_counted items_of gather any_bad start_tests state_tests parts_from cut_of time_of change_of finish_of start_of step run to_one
+unfolding groups leb_of le unle symbol_of class_of_all symbols_in last_or vcd_bit decode change_bytes les data_of offsets_from block_bytes head_bytes way_of skip_of with_skip skip_begun skip_ended
+    skip_same skip_counted items_of gather any_bad start_tests state_tests parts_from cut_of time_of change_of finish_of start_of step run to_one
 pair = record {
   first = good-recorded;
   second = bad-recorded;
@@ -130,8 +130,8 @@ abbrev bad_image : List ℕ
 bad_image = les 4 (2 ∷ 2 ∷ 1 ∷ 54 ∷ 1 ∷ 1 ∷ []) ++ (les 4 (30 ∷ 1 ∷ 2 ∷ 0 ∷ 1 ∷ []) ++ (les 8 (5 ∷ []) ++ (0x00 ∷ 0x01 ∷ [])))
 
 pub pair_left : (left_by (settings_of 2 2 1) shared (lists good) 56 ≡ good_image) × (left_by (settings_of 2 2 1) shared (lists bad) 54 ≡ bad_image)
-unfolding groups leb_of le unle symbol_of class_of_all symbols_in last_or vcd_bit decode change_bytes les data_of offsets_from block_bytes head_bytes way_of skip_of with_skip skip_begun skip_ended skip_same
-    skip_counted items_of gather any_bad start_tests state_tests parts_from cut_of time_of change_of finish_of start_of step run to_one
+unfolding groups leb_of le unle symbol_of class_of_all symbols_in last_or vcd_bit decode change_bytes les data_of offsets_from block_bytes head_bytes way_of skip_of with_skip skip_begun skip_ended
+    skip_same skip_counted items_of gather any_bad start_tests state_tests parts_from cut_of time_of change_of finish_of start_of step run to_one
 pair_left = (refl, refl)
 
 -- what is loaded of signal 0 differs; of signal 1 it is the same, as the claim says
@@ -146,8 +146,8 @@ pair-loads = (refl, refl, refl, refl)
 
 -- 9 work bytes hold one change
 pub work-shared : (ran_on both 9 64 (lists good) ≡ say taken ∷ say recorded ∷ refuse 7 ∷ []) × (ran_on both 9 64 (lists bad) ≡ say taken ∷ refuse 6 ∷ say recorded ∷ [])
-unfolding groups leb_of le unle symbol_of class_of_all symbols_in last_or vcd_bit decode change_bytes les data_of offsets_from block_bytes head_bytes way_of skip_of with_skip skip_begun skip_ended skip_same
-    skip_counted items_of gather any_bad start_tests state_tests parts_from cut_of time_of change_of finish_of start_of step run to_one
+unfolding groups leb_of le unle symbol_of class_of_all symbols_in last_or vcd_bit decode change_bytes les data_of offsets_from block_bytes head_bytes way_of skip_of with_skip skip_begun skip_ended
+    skip_same skip_counted items_of gather any_bad start_tests state_tests parts_from cut_of time_of change_of finish_of start_of step run to_one
 work-shared = (refl, refl)
 
 -- a head of 20 bytes; a block of 32 bytes without changes, and 34 with one
@@ -156,20 +156,20 @@ cutting v = time 1 1 ∷ time 1 2 ∷ change 0 0 (vcd v) ∷ time 1 3 ∷ []
 
 pub image-shared : (ran_on zeros 9 52 (cutting good) ≡ say taken ∷ say taken ∷ say recorded ∷ refuse 8 ∷ [])
     × (ran_on zeros 9 52 (cutting bad) ≡ say taken ∷ say taken ∷ refuse 6 ∷ say taken ∷ [])
-unfolding groups leb_of le unle symbol_of class_of_all symbols_in last_or vcd_bit decode change_bytes les data_of offsets_from block_bytes head_bytes way_of skip_of with_skip skip_begun skip_ended skip_same
-    skip_counted items_of gather any_bad start_tests state_tests parts_from cut_of time_of change_of finish_of start_of step run to_one
+unfolding groups leb_of le unle symbol_of class_of_all symbols_in last_or vcd_bit decode change_bytes les data_of offsets_from block_bytes head_bytes way_of skip_of with_skip skip_begun skip_ended
+    skip_same skip_counted items_of gather any_bad start_tests state_tests parts_from cut_of time_of change_of finish_of start_of step run to_one
 image-shared = (refl, refl)
 
 pub table-shared : (ran_on [] 0 16 (time 0 0 ∷ time 1 0 ∷ []) ≡ say taken ∷ say calls.same ∷ []) × (ran_on [] 0 16 (time 0 1 ∷ time 1 0 ∷ []) ≡ say taken ∷ say back ∷ [])
-unfolding groups leb_of le unle symbol_of class_of_all symbols_in last_or vcd_bit decode change_bytes les data_of offsets_from block_bytes head_bytes way_of skip_of with_skip skip_begun skip_ended skip_same
-    skip_counted items_of gather any_bad start_tests state_tests parts_from cut_of time_of change_of finish_of start_of step run to_one
+unfolding groups leb_of le unle symbol_of class_of_all symbols_in last_or vcd_bit decode change_bytes les data_of offsets_from block_bytes head_bytes way_of skip_of with_skip skip_begun skip_ended
+    skip_same skip_counted items_of gather any_bad start_tests state_tests parts_from cut_of time_of change_of finish_of start_of step run to_one
 table-shared = (refl, refl)
 
 -- a file of probe 0, `#1`, a value, `#2`, and then a time 2 of probe 1: the bad value ends the file, so that its time 2 is not sent
 pub file-ended : (ran_on zeros 9 64 (time 0 1 ∷ change 0 0 (vcd good) ∷ time 0 2 ∷ time 1 2 ∷ []) ≡ say taken ∷ say recorded ∷ say taken ∷ say calls.same ∷ [])
     × (ran_on zeros 9 64 (time 0 1 ∷ change 0 0 (vcd bad) ∷ time 1 2 ∷ []) ≡ say taken ∷ refuse 6 ∷ say taken ∷ [])
-unfolding groups leb_of le unle symbol_of class_of_all symbols_in last_or vcd_bit decode change_bytes les data_of offsets_from block_bytes head_bytes way_of skip_of with_skip skip_begun skip_ended skip_same
-    skip_counted items_of gather any_bad start_tests state_tests parts_from cut_of time_of change_of finish_of start_of step run to_one
+unfolding groups leb_of le unle symbol_of class_of_all symbols_in last_or vcd_bit decode change_bytes les data_of offsets_from block_bytes head_bytes way_of skip_of with_skip skip_begun skip_ended
+    skip_same skip_counted items_of gather any_bad start_tests state_tests parts_from cut_of time_of change_of finish_of start_of step run to_one
 file-ended = (refl, refl)
 
 -- ---- a recorder that leaks a value of probe 0: a bad one makes it skip the changes of probe 1
@@ -195,6 +195,6 @@ leaky v = leaky_run (start_of (settings_of 2 2 1) shared).memory (lists v ++ fin
 -- on the pair it meets neither 7 nor 8 and finishes, and its answers to probe 1 differ
 pub leak-shows : (leaky good ≡ say taken ∷ say recorded ∷ say recorded ∷ total 56 ∷ []) × (leaky bad ≡ say taken ∷ refuse 6 ∷ say skipped ∷ total 52 ∷ [])
     × (to_one (lists good) (leaky good) ≡ say recorded ∷ []) × (to_one (lists bad) (leaky bad) ≡ say skipped ∷ [])
-unfolding groups leb_of le unle symbol_of class_of_all symbols_in last_or vcd_bit decode change_bytes les data_of offsets_from block_bytes head_bytes way_of skip_of with_skip skip_begun skip_ended skip_same
-    skip_counted items_of gather any_bad start_tests state_tests parts_from cut_of time_of change_of finish_of start_of step run to_one leaky_run
+unfolding groups leb_of le unle symbol_of class_of_all symbols_in last_or vcd_bit decode change_bytes les data_of offsets_from block_bytes head_bytes way_of skip_of with_skip skip_begun skip_ended
+    skip_same skip_counted items_of gather any_bad start_tests state_tests parts_from cut_of time_of change_of finish_of start_of step run to_one leaky_run
 leak-shows = (refl, refl, refl, refl)

@@ -38,8 +38,8 @@ pub probes-apart : let r = ran_with 1 3 both two_probes in
     ≡ refuse 18 ∷ say taken ∷ say calls.same ∷ say back ∷ say skipped ∷ say skipped ∷ say taken ∷ say skipped ∷ refuse 4 ∷ say skipped ∷ say calls.same ∷ say taken
     ∷ refuse 4 ∷ refuse 4 ∷ refuse 18 ∷ say recorded ∷ [])
     × (r.last.state.skips.zero.count ≡ 0) × (r.last.state.skips.one.count ≡ 4)
-unfolding groups leb_of le unle symbol_of class_of_all symbols_in last_or vcd_bit decode change_bytes les data_of offsets_from block_bytes head_bytes way_of skip_of with_skip skip_begun skip_ended skip_same
-    skip_counted items_of gather any_bad start_tests state_tests parts_from cut_of time_of change_of finish_of start_of step run lent_with ran_with
+unfolding groups leb_of le unle symbol_of class_of_all symbols_in last_or vcd_bit decode change_bytes les data_of offsets_from block_bytes head_bytes way_of skip_of with_skip skip_begun skip_ended
+    skip_same skip_counted items_of gather any_bad start_tests state_tests parts_from cut_of time_of change_of finish_of start_of step run lent_with ran_with
 probes-apart = (refl, refl, refl)
 
 -- in edition 2 an equal time ends the skip of its sender only, also one that is equal to a time of the other probe
@@ -48,21 +48,21 @@ pub returns-apart : let one = ran_with 1 4 both returns in
     (one.replies ≡ say taken ∷ say back ∷ say calls.same ∷ say skipped ∷ say taken ∷ say skipped ∷ say calls.same ∷ say skipped ∷ say recorded ∷ [])
     × (two.replies ≡ say taken ∷ say back ∷ say calls.same ∷ say skipped ∷ say taken ∷ say skipped ∷ say calls.same ∷ say recorded ∷ say recorded ∷ [])
     × (one.last.state.skips ≡ both_skips (probe_skip false 0) (probe_skip true 3)) × (two.last.state.skips ≡ both_skips (probe_skip false 0) (probe_skip false 2))
-unfolding groups leb_of le unle symbol_of class_of_all symbols_in last_or vcd_bit decode change_bytes les data_of offsets_from block_bytes head_bytes way_of skip_of with_skip skip_begun skip_ended skip_same
-    skip_counted items_of gather any_bad start_tests state_tests parts_from cut_of time_of change_of finish_of start_of step run lent_with ran_with
+unfolding groups leb_of le unle symbol_of class_of_all symbols_in last_or vcd_bit decode change_bytes les data_of offsets_from block_bytes head_bytes way_of skip_of with_skip skip_begun skip_ended
+    skip_same skip_counted items_of gather any_bad start_tests state_tests parts_from cut_of time_of change_of finish_of start_of step run lent_with ran_with
 returns-apart = (refl, refl, refl, refl)
 
 -- a change falls at the last time, whoever sent that: of probe 0 at the time 6 of probe 1, whose index is 1
 pub at-shared-time : let r = ran_with 1 3 both (time 0 5 ∷ time 1 6 ∷ change 0 0 (vcd (49 ∷ [])) ∷ []) in
     take 9 r.last.work ≡ les 4 (0 ∷ 1 ∷ []) ++ (0x11 ∷ [])
-unfolding groups leb_of le unle symbol_of class_of_all symbols_in last_or vcd_bit decode change_bytes les data_of offsets_from block_bytes head_bytes way_of skip_of with_skip skip_begun skip_ended skip_same
-    skip_counted items_of gather any_bad start_tests state_tests parts_from cut_of time_of change_of finish_of start_of step run lent_with ran_with
+unfolding groups leb_of le unle symbol_of class_of_all symbols_in last_or vcd_bit decode change_bytes les data_of offsets_from block_bytes head_bytes way_of skip_of with_skip skip_begun skip_ended
+    skip_same skip_counted items_of gather any_bad start_tests state_tests parts_from cut_of time_of change_of finish_of start_of step run lent_with ran_with
 at-shared-time = refl
 
 -- a bad value of probe 0 spoils only itself
 pub bad-value-alone : (ran_with 1 3 both (time 0 5 ∷ change 0 0 (vcd (113 ∷ [])) ∷ change 1 1 (vcd (49 ∷ [])) ∷ [])).replies ≡ say taken ∷ refuse 6 ∷ say recorded ∷ []
-unfolding groups leb_of le unle symbol_of class_of_all symbols_in last_or vcd_bit decode change_bytes les data_of offsets_from block_bytes head_bytes way_of skip_of with_skip skip_begun skip_ended skip_same
-    skip_counted items_of gather any_bad start_tests state_tests parts_from cut_of time_of change_of finish_of start_of step run lent_with ran_with
+unfolding groups leb_of le unle symbol_of class_of_all symbols_in last_or vcd_bit decode change_bytes les data_of offsets_from block_bytes head_bytes way_of skip_of with_skip skip_begun skip_ended
+    skip_same skip_counted items_of gather any_bad start_tests state_tests parts_from cut_of time_of change_of finish_of start_of step run lent_with ran_with
 bad-value-alone = refl
 
 -- both probes skip, with these counts; a change of sender p
@@ -76,8 +76,8 @@ pub counts-stay : (counting 4294967295 7 0 ≡ both_skips (probe_skip true 42949
     × (counting 4294967295 7 1 ≡ both_skips (probe_skip true 4294967295) (probe_skip true 8))
     × (counting 7 4294967295 0 ≡ both_skips (probe_skip true 8) (probe_skip true 4294967295))
     × (counting 4294967295 4294967295 1 ≡ both_skips (probe_skip true 4294967295) (probe_skip true 4294967295))
-unfolding groups leb_of le unle symbol_of class_of_all symbols_in last_or vcd_bit decode change_bytes les data_of offsets_from block_bytes head_bytes way_of skip_of with_skip skip_begun skip_ended skip_same
-    skip_counted items_of gather any_bad start_tests state_tests parts_from cut_of time_of change_of finish_of start_of step run lent_with ran_with
+unfolding groups leb_of le unle symbol_of class_of_all symbols_in last_or vcd_bit decode change_bytes les data_of offsets_from block_bytes head_bytes way_of skip_of with_skip skip_begun skip_ended
+    skip_same skip_counted items_of gather any_bad start_tests state_tests parts_from cut_of time_of change_of finish_of start_of step run lent_with ran_with
 counts-stay = (refl, refl, refl, refl)
 
 -- ---- a sender that is no probe, and records that name none
@@ -104,16 +104,16 @@ altered c =
 pub sender-first : (replies early (asked 2) ≡ refuse 18 ∷ refuse 18 ∷ refuse 18 ∷ []) × (replies early (asked 0) ≡ say taken ∷ refuse 3 ∷ refuse 3 ∷ [])
     × (replies (altered false) (asked 2) ≡ refuse 18 ∷ refuse 18 ∷ refuse 18 ∷ []) × (replies (altered false) (asked 0) ≡ refuse 10 ∷ refuse 10 ∷ refuse 10 ∷ [])
     × (replies (altered true) (asked 2) ≡ refuse 2 ∷ refuse 2 ∷ refuse 2 ∷ [])
-unfolding groups leb_of le unle symbol_of class_of_all symbols_in last_or vcd_bit decode change_bytes les data_of offsets_from block_bytes head_bytes way_of skip_of with_skip skip_begun skip_ended skip_same
-    skip_counted items_of gather any_bad start_tests state_tests parts_from cut_of time_of change_of finish_of start_of step run lent_with ran_with
+unfolding groups leb_of le unle symbol_of class_of_all symbols_in last_or vcd_bit decode change_bytes les data_of offsets_from block_bytes head_bytes way_of skip_of with_skip skip_begun skip_ended
+    skip_same skip_counted items_of gather any_bad start_tests state_tests parts_from cut_of time_of change_of finish_of start_of step run lent_with ran_with
 sender-first = (refl, refl, refl, refl, refl)
 
 -- a sender above 1 is nobody's: while probe 1 skips its changes are not counted, and its times neither end nor begin a skip
 pub sender-in-skip : let r = ran_with 1 3 both (time 1 5 ∷ time 1 4 ∷ change 2 1 (vcd (49 ∷ [])) ∷ time 2 3 ∷ time 2 9 ∷ change 1 1 (vcd (49 ∷ [])) ∷ change 0 0 (vcd (49 ∷ [])) ∷ []) in
     (r.replies ≡ say taken ∷ say back ∷ refuse 18 ∷ refuse 18 ∷ refuse 18 ∷ say skipped ∷ say recorded ∷ [])
     × (r.last.state.skips ≡ both_skips (probe_skip false 0) (probe_skip true 1)) × (r.last.state.held ≡ 1)
-unfolding groups leb_of le unle symbol_of class_of_all symbols_in last_or vcd_bit decode change_bytes les data_of offsets_from block_bytes head_bytes way_of skip_of with_skip skip_begun skip_ended skip_same
-    skip_counted items_of gather any_bad start_tests state_tests parts_from cut_of time_of change_of finish_of start_of step run lent_with ran_with
+unfolding groups leb_of le unle symbol_of class_of_all symbols_in last_or vcd_bit decode change_bytes les data_of offsets_from block_bytes head_bytes way_of skip_of with_skip skip_begun skip_ended
+    skip_same skip_counted items_of gather any_bad start_tests state_tests parts_from cut_of time_of change_of finish_of start_of step run lent_with ran_with
 sender-in-skip = (refl, refl, refl)
 
 -- a record that another hand altered to name no probe: 18 to everyone, after 4, and the recording finishes
@@ -121,8 +121,8 @@ pub record-of-none : let m = (ran_with 1 3 both (time 0 5 ∷ change 0 0 (vcd (4
     let other = memory m.state (record_of (BitVector 1) 0 Two 7 ∷ record_of (BitVector 1) 0 Two 1 ∷ record_of Absent 0 Two 7 ∷ []) m.times m.work m.image in
     replies other (change 0 0 (vcd (49 ∷ [])) ∷ change 1 0 (vcd (49 ∷ [])) ∷ change 7 0 (vcd (49 ∷ [])) ∷ change 0 2 (vcd []) ∷ change 1 1 (vcd (49 ∷ [])) ∷ finish ∷ [])
     ≡ refuse 18 ∷ refuse 18 ∷ refuse 18 ∷ refuse 4 ∷ say recorded ∷ total 62 ∷ []
-unfolding groups leb_of le unle symbol_of class_of_all symbols_in last_or vcd_bit decode change_bytes les data_of offsets_from block_bytes head_bytes way_of skip_of with_skip skip_begun skip_ended skip_same
-    skip_counted items_of gather any_bad start_tests state_tests parts_from cut_of time_of change_of finish_of start_of step run lent_with ran_with
+unfolding groups leb_of le unle symbol_of class_of_all symbols_in last_or vcd_bit decode change_bytes les data_of offsets_from block_bytes head_bytes way_of skip_of with_skip skip_begun skip_ended
+    skip_same skip_counted items_of gather any_bad start_tests state_tests parts_from cut_of time_of change_of finish_of start_of step run lent_with ran_with
 record-of-none = refl
 
 -- a start refuses a record that names neither probe

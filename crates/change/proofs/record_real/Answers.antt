@@ -53,4 +53,5 @@ returns-in-Length c =
     let b = n in
     let p = b in
     answered _ _ _ _ _ _ _ _ e.0 e.1 e.2 refl
-    ∙ item-done _ _ _ _ _ _ _ p.requires.bits_value _ _ (room (goal.at.returns-in-Length c).In-Length) b.begin_item.ensures.0 b.begin_item.ensures.1 n.in-Length.is (rw (said (goal.at.returns-in-Length c).Start) l.put_real_change.ensures.1)
+    ∙ item-done _ _ _ _ _ _ _ p.requires.bits_value _ _ (room (goal.at.returns-in-Length c).In-Length) b.begin_item.ensures.0 b.begin_item.ensures.1 n.in-Length.is
+    (rw (said (goal.at.returns-in-Length c).Start) l.put_real_change.ensures.1)

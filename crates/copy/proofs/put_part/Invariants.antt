@@ -6,7 +6,8 @@ use lib.Seq.{sets}
 use Rattle.copy.proofs.put_part.Given as goal
 
 abbrev pub invariant-loop-i : goal.invariant-loop-i
-invariant-loop-i l = (l.i ≤ l.count) × (length l.out ≡ length l.initial.out) × (sets l.out (l.at + l.i) (take (l.count - l.i) (drop (l.from + l.i) l.src)) ≡ sets l.initial.out l.at (take l.count (drop l.from l.src)))
+invariant-loop-i l = (l.i ≤ l.count) × (length l.out ≡ length l.initial.out)
+    × (sets l.out (l.at + l.i) (take (l.count - l.i) (drop (l.from + l.i) l.src)) ≡ sets l.initial.out l.at (take l.count (drop l.from l.src)))
 
 abbrev pub decreases-loop-i : goal.decreases-loop-i
 decreases-loop-i l = l.count - l.i

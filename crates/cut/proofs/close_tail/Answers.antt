@@ -9,7 +9,8 @@ use Rattle.cut.proofs.CutLaws.{close-asked}
 use Rattle.cut.proofs.close_tail.Goals as goal
 
 pub close_block-requires : goal.close_block-requires
-close_block-requires c = let p = c in let a = p.args in let it = (close-asked a.state a.image.now p.requires.state_in_bounds.0 a.work.now p.requires.state_in_bounds.2 p.requires.closes) in record { signals_bound = rw c.data_start-d.ensures it.0; closes = rw c.data_start-d.ensures it.1 }
+close_block-requires c = let p = c in let a = p.args in let it = (close-asked a.state a.image.now p.requires.state_in_bounds.0 a.work.now p.requires.state_in_bounds.2 p.requires.closes) in
+    record { signals_bound = rw c.data_start-d.ensures it.0; closes = rw c.data_start-d.ensures it.1 }
 
 pub returns : goal.returns
 returns c =

@@ -14,7 +14,8 @@ slice_bounds-records-end c =
     used-length p.args.state.work p.args.work.now p.requires.worked
 
 pub open_block-requires : goal.open_block-requires
-open_block-requires c = let p = c in let a = p.args in let it = open-asked a.state a.image.now p.requires.room a.size a.times.now a.work.now p.requires in record { held_in_bounds = it.0; opens = it.1 }
+open_block-requires c = let p = c in let a = p.args in let it = open-asked a.state a.image.now p.requires.room a.size a.times.now a.work.now p.requires in
+    record { held_in_bounds = it.0; opens = it.1 }
 
 pub returns : goal.returns
 returns c =

@@ -30,7 +30,11 @@ pub overflow_sub-size : goal.overflow_sub-size
 overflow_sub-size c =
     let p = c in
     let a = p.args in
-    omega (arith, own-fewer a.width (class_number a.class) (class_number a.states) a.next a.stream.now p.requires.width_nonzero.0 p.requires.width_nonzero.1 (number_small a.class) p.requires.width_nonzero.2)
+    omega (
+      arith,
+      own-fewer a.width (class_number a.class) (class_number a.states) a.next a.stream.now p.requires.width_nonzero.0 p.requires.width_nonzero.1
+          (number_small a.class) p.requires.width_nonzero.2,
+    )
 
 pub put_part-end-requires : goal.put_part-end-requires
 put_part-end-requires c =

@@ -11,7 +11,8 @@ use Rattle.flat_records.proofs.start_records.Given as goal
 
 abbrev pub invariant-loop-g : goal.invariant-loop-g
 invariant-loop-g l =
-    (l.g ≤ l.turns) × (l.turns ≤ length l.initial.records) × (length l.records ≡ length l.initial.records) × (length l.image ≡ length l.initial.image) × (records_of l.records ≡ first_by fresh l.g (records_of l.initial.records)) ×
+    (l.g ≤ l.turns) × (l.turns ≤ length l.initial.records) × (length l.records ≡ length l.initial.records) × (length l.image ≡ length l.initial.image)
+    × (records_of l.records ≡ first_by fresh l.g (records_of l.initial.records)) ×
     (l.image ≡ kinds_put l.g (records_of l.initial.records) l.initial.image)
 
 abbrev pub decreases-loop-g : goal.decreases-loop-g

@@ -33,7 +33,8 @@ pub returns-then-starts_early : goal.returns-then-starts_early
 returns-then-starts_early c =
     let k = c in
     let a = k.args in
-    is-16 (image_in a.first.now) (image_in a.second.now) _ (alike (goal.at.returns-then-starts_early c).Else-block_count-eq0) (some-there (goal.at.returns-then-starts_early c).Else-block_count-eq0) (sym c.starts_early.ensures ∙ c.if-starts_early.true)
+    is-16 (image_in a.first.now) (image_in a.second.now) _ (alike (goal.at.returns-then-starts_early c).Else-block_count-eq0)
+    (some-there (goal.at.returns-then-starts_early c).Else-block_count-eq0) (sym c.starts_early.ensures ∙ c.if-starts_early.true)
 
 pub total_of-requires : goal.total_of-requires
 total_of-requires c = let s = c in (s.requires.0, s.requires.1, alike (goal.at.total_of-requires c).Else-block_count-eq0)
@@ -42,12 +43,14 @@ pub returns-then-lacks_room : goal.returns-then-lacks_room
 returns-then-lacks_room c =
     let k = c in
     let a = k.args in
-    is-8 (image_in a.first.now) (image_in a.second.now) _ (alike (goal.at.returns-then-lacks_room c).Else-block_count-eq0) (some-there (goal.at.returns-then-lacks_room c).Else-block_count-eq0) (sym c.starts_early.ensures ∙ c.if-starts_early.false)
+    is-8 (image_in a.first.now) (image_in a.second.now) _ (alike (goal.at.returns-then-lacks_room c).Else-block_count-eq0)
+    (some-there (goal.at.returns-then-lacks_room c).Else-block_count-eq0) (sym c.starts_early.ensures ∙ c.if-starts_early.false)
     _ c.total_of.ensures.0 _ c.lacks_room.ensures c.if-lacks_room.true
 
 pub returns : goal.returns
 returns c =
     let k = c in
     let a = k.args in
-    is-0 (image_in a.first.now) (image_in a.second.now) _ (alike (goal.at.returns c).Else-block_count-eq0) (some-there (goal.at.returns c).Else-block_count-eq0) (sym c.starts_early.ensures ∙ c.if-starts_early.false)
+    is-0 (image_in a.first.now) (image_in a.second.now) _ (alike (goal.at.returns c).Else-block_count-eq0)
+    (some-there (goal.at.returns c).Else-block_count-eq0) (sym c.starts_early.ensures ∙ c.if-starts_early.false)
     _ c.total_of.ensures.0 _ c.lacks_room.ensures c.if-lacks_room.false

@@ -36,7 +36,9 @@ turned c n h =
     let a = r.args in
     let l = c.loop-p in
     block-turn r.kind_at-kind.result a.image.now n a.at a.signal (class_number a.class) a.write a.base r.part_in-part.result.from r.part_in-part.result.to
-    a.state a.index.now a.bytes.now r.kind_at-kind.ensures ((let it : let a = c.args in (n : ℕ) → BlockHere n a.at a.image.now → Begins a.image.now n a.at a.signal c.part_in-part.result.from c.part_in-part.result.to = λ n h. let a = c.args in begins a.image.now n a.at a.signal _ _ _ (λ j. (c.shared_slice_known-1.given j).fits) c.requires.opened.0 h (c.part_in-part.ensures n h) in it) n h)
+    a.state a.index.now a.bytes.now r.kind_at-kind.ensures
+    ((let it : let a = c.args in (n : ℕ) → BlockHere n a.at a.image.now → Begins a.image.now n a.at a.signal c.part_in-part.result.from c.part_in-part.result.to = λ n h. let a = c.args in
+    begins a.image.now n a.at a.signal _ _ _ (λ j. (c.shared_slice_known-1.given j).fits) c.requires.opened.0 h (c.part_in-part.ensures n h) in it) n h)
     l.p l.i l.state l.index l.bytes c.in-Change.d c.in-Change.value c.in-Change.next (λ j. (r.shared_slice_known-1.given j).fits)
     c.loop-p-test.true (l.invariant n h)
     (sym c.known_change.ensures ∙ c.in-Change.is)
@@ -50,7 +52,9 @@ standing c =
     let q = r.requires.block_room in
     let l = c.loop-p in
     block-not-bad r.kind_at-kind.result a.image.now q.0 a.at a.signal (class_number a.class) a.write a.base r.part_in-part.result.from r.part_in-part.result.to
-    a.state a.index.now a.bytes.now r.kind_at-kind.ensures ((let it : let a = c.args in (n : ℕ) → BlockHere n a.at a.image.now → Begins a.image.now n a.at a.signal c.part_in-part.result.from c.part_in-part.result.to = λ n h. let a = c.args in begins a.image.now n a.at a.signal _ _ _ (λ j. (c.shared_slice_known-1.given j).fits) c.requires.opened.0 h (c.part_in-part.ensures n h) in it) q.0 q.1)
+    a.state a.index.now a.bytes.now r.kind_at-kind.ensures
+    ((let it : let a = c.args in (n : ℕ) → BlockHere n a.at a.image.now → Begins a.image.now n a.at a.signal c.part_in-part.result.from c.part_in-part.result.to = λ n h. let a = c.args in
+    begins a.image.now n a.at a.signal _ _ _ (λ j. (c.shared_slice_known-1.given j).fits) c.requires.opened.0 h (c.part_in-part.ensures n h) in it) q.0 q.1)
     l.p l.i l.state l.index l.bytes (λ j. (r.shared_slice_known-1.given j).fits) c.loop-p-test.true (l.invariant q.0 q.1)
 
 pub part_in-part-requires : goal.part_in-part-requires
@@ -113,7 +117,8 @@ loop-p-preserved c n h =
     let t = turned (goal.at.loop-p-preserved c).In-Change n h in
     let l = q.loop-p in
     let m = r.requires.block_room in
-    let long = entry-bytes r.kind_at-kind.result a.image.now _ _ l.p _ (class_number a.class) _ q.in-Change.d q.in-Change.value q.in-Change.next (turned (goal.at.loop-p-preserved c).In-Change m.0 m.1) m.2
+    let long = entry-bytes r.kind_at-kind.result a.image.now _ _ l.p _ (class_number a.class) _ q.in-Change.d q.in-Change.value q.in-Change.next
+    (turned (goal.at.loop-p-preserved c).In-Change m.0 m.1) m.2
     (number_small a.class) in
     let e = c.take_change-state.ensures in
     going_on r.kind_at-kind.result a.image.now _ _ (class_number a.class) a.write _ _ _ _ _ l.p l.i l.state l.index l.bytes (l.invariant n h) q.in-Change.d q.in-Change.value q.in-Change.next t

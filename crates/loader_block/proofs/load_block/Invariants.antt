@@ -8,7 +8,8 @@ use Rattle.loader_block.proofs.load_block.Given as goal
 
 abbrev pub invariant-loop-p : goal.invariant-loop-p
 invariant-loop-p l =
-    (n : ℕ) → BlockHere n l.at l.image → BlockGoing l.kind l.image n l.signal (class_number l.class) l.write l.base l.initial.p l.to l.initial.state l.initial.index l.initial.bytes l.p l.i l.state l.index l.bytes
+    (n : ℕ) → BlockHere n l.at l.image
+    → BlockGoing l.kind l.image n l.signal (class_number l.class) l.write l.base l.initial.p l.to l.initial.state l.initial.index l.initial.bytes l.p l.i l.state l.index l.bytes
 
 abbrev pub decreases-loop-p : goal.decreases-loop-p
 decreases-loop-p l = l.to - l.p

@@ -32,7 +32,8 @@ overflow_add-bytes c =
     let l = t.loop-number in
     let s = t in
     let r = c.part_in-part.result in
-    let m = stream-there s.args.image.now s.args.signal l.number l.at l.bytes l.top (λ j. (s.shared_slice_known-1.given j).fits) s.requires l.invariant (below (goal.at.overflow_add-bytes c).In-loop-number)
+    let m = stream-there s.args.image.now s.args.signal l.number l.at l.bytes l.top (λ j. (s.shared_slice_known-1.given j).fits) s.requires l.invariant
+    (below (goal.at.overflow_add-bytes c).In-loop-number)
     r.from r.to r.top (c.part_in-part.ensures l.number (found (goal.at.overflow_add-bytes c).In-loop-number)) in
     omega (arith, m.0, m.1)
 

@@ -22,7 +22,8 @@ pub returns-then-used-eq0 : goal.returns-then-used-eq0
 returns-then-used-eq0 c =
     let b = c in
     let a = b.args in
-    c.class_from-class.ensures ∙ start-whole a.width (class_number a.states) b.bits.result a.bytes.now b.bits.ensures.0 (omega (arith, bits_are (goal.at.returns-then-used-eq0 c).After-bits)) c.if-used-eq0.true
+    c.class_from-class.ensures
+    ∙ start-whole a.width (class_number a.states) b.bits.result a.bytes.now b.bits.ensures.0 (omega (arith, bits_are (goal.at.returns-then-used-eq0 c).After-bits)) c.if-used-eq0.true
 
 pub overflow_sub-whole-2 : goal.overflow_sub-whole-2
 overflow_sub-whole-2 c = omega (arith, bits_are (goal.at.overflow_sub-whole-2 c).After-bits)

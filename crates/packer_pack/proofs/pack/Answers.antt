@@ -63,7 +63,11 @@ nonzero_div-whole c = rw c.per_byte.ensures (some-per-byte (class_number c.args.
 pub part_bytes-next-requires : goal.part_bytes-next-requires
 part_bytes-next-requires c =
     let s = c in
-    record { held = (held (goal.at.part_bytes-next-requires c).Start, near (goal.at.part_bytes-next-requires c).After-per_byte); whole_bound = ((whole (goal.at.part_bytes-next-requires c).After-per_byte).1, s.requires.states_in_bounds) }
+    record {
+      held = (held (goal.at.part_bytes-next-requires c).Start, near (goal.at.part_bytes-next-requires c).After-per_byte);
+      whole_bound =
+          ((whole (goal.at.part_bytes-next-requires c).After-per_byte).1, s.requires.states_in_bounds);
+    }
 
 pub text_bytes-requires : goal.text_bytes-requires
 text_bytes-requires c =

@@ -20,7 +20,9 @@ inside c =
     rw c.per_byte-each.ensures (byte-in s.args.width k s.args.after s.requires.1, omega (arith, byte_full k))
 
 small : (c : goal.At-loop-i) → c.loop-i.working < 256
-small c = let p = (let it : let a = c.args in (a.after * c.per_byte-each.result < a.width) × (c.per_byte-each.result * bits_of (class_number a.states) ≤ 8) = let s = c in let k : ℕ = class_number s.args.states in rw c.per_byte-each.ensures (byte-in s.args.width k s.args.after s.requires.1, omega (arith, byte_full k)) in it) in taken-small _ _ _ _ p.1 c.loop-i.invariant.1
+small c = let p = (let it : let a = c.args in (a.after * c.per_byte-each.result < a.width) × (c.per_byte-each.result * bits_of (class_number a.states) ≤ 8) = let s = c in
+    let k : ℕ = class_number s.args.states in rw c.per_byte-each.ensures (byte-in s.args.width k s.args.after s.requires.1, omega (arith, byte_full k)) in it) in
+    taken-small _ _ _ _ p.1 c.loop-i.invariant.1
 
 pub overflow_mul-standing : goal.overflow_mul-standing
 overflow_mul-standing c = let p = inside c in omega arith

@@ -40,7 +40,15 @@ pack-requires c =
     let a = p.args in
     let s : List ℕ = symbols_from a.notation a.width a.src.now in
     let e = number-then (goal.at.pack-requires c).After-put_leb128-next in
-    let size : packed_length a.width (class_number a.states) ≡ length (packed (class_of_all s) s) = sized a.notation a.width a.src.now a.states p.requires.d_le_max_delta.2 p.requires.src_value.1 in record { readable = p.requires.d_le_max_delta.2; src_value = (p.requires.src_value.0, omega (arith, p.requires.src_value.1)); states_in_bounds = room_back (leb_of (a.d * 4 + class_of_all s)) (packed (class_of_all s) s) a.out.now _ a.at _ _ (rw (wide-bytes a.width a.d s p.requires.d_le_max_delta.1) at p.requires.src_in_bounds) e.0 e.1 size }
+    let size : packed_length a.width (class_number a.states) ≡ length (packed (class_of_all s) s) =
+    sized a.notation a.width a.src.now a.states p.requires.d_le_max_delta.2 p.requires.src_value.1 in
+    record {
+      readable = p.requires.d_le_max_delta.2;
+      src_value =
+          (p.requires.src_value.0, omega (arith, p.requires.src_value.1));
+      states_in_bounds = room_back (leb_of (a.d * 4 + class_of_all s))
+          (packed (class_of_all s) s) a.out.now _ a.at _ _ (rw (wide-bytes a.width a.d s p.requires.d_le_max_delta.1) at p.requires.src_in_bounds) e.0 e.1 size;
+    }
 
 pub returns : goal.returns
 returns c =

@@ -47,7 +47,8 @@ extends_left-requires c = first-symbol _ (search rules) (class (goal.at.extends_
 short : (c : goal.After-extends_left) → let a = c.args in
     change_of a.width (text_symbols a.width a.text.now)
     ≡ pick c.extends_left.result (MultiBit c.in-Some.states) Bad
-short c = (let a = c.args in text-change a.width a.text.now (search rules) (search rules) (search rules) (sym c.states_from_ascii.ensures ∙ c.in-Some.is)) ∙ rw (ne_eqb _ _ c.if-text-width.false, ← c.extends_left.ensures) refl
+short c = (let a = c.args in text-change a.width a.text.now (search rules) (search rules) (search rules) (sym c.states_from_ascii.ensures ∙ c.in-Some.is))
+    ∙ rw (ne_eqb _ _ c.if-text-width.false, ← c.extends_left.ensures) refl
 
 pub returns-then-extends_left : goal.returns-then-extends_left
 returns-then-extends_left c = sym (short (goal.at.returns-then-extends_left c).After-extends_left ∙ rw c.if-extends_left.true refl)

@@ -47,7 +47,13 @@ put_times-p-requires c =
     let e = c.shared-skip.ensures l.k (standing (goal.at.put_times-p-requires c).In-loop-k) in
     let s = i in (
       s.requires.0,
-      (l.k, standing (goal.at.put_times-p-requires c).In-loop-k, omega (arith, t.few, e), omega (arith, t.count, l.invariant.2, l.invariant.3, s.requires.1, ap length (table (goal.at.put_times-p-requires c).In-loop-k), e)),
+      (
+        l.k,
+        standing (goal.at.put_times-p-requires c).In-loop-k,
+        omega (arith, t.few, e),
+        omega
+            (arith, t.count, l.invariant.2, l.invariant.3, s.requires.1, ap length (table (goal.at.put_times-p-requires c).In-loop-k), e),
+      ),
     )
 
 pub last_time-end-requires : goal.last_time-end-requires

@@ -32,10 +32,17 @@ pub shared-requires : goal.shared-requires
 shared-requires c = (c.requires, (c.loop-k.k, standing (goal.at.shared-requires c).In-loop-k))
 
 pub overflow_sub-n : goal.overflow_sub-n
-overflow_sub-n c = let i = c in omega (arith, (turn (goal.at.overflow_sub-n c).In-loop-k).few, c.times_in.ensures _ (standing (goal.at.overflow_sub-n c).In-loop-k), c.shared.ensures _ (standing (goal.at.overflow_sub-n c).In-loop-k))
+overflow_sub-n c = let i = c in
+    omega (
+      arith,
+      (turn (goal.at.overflow_sub-n c).In-loop-k).few,
+      c.times_in.ensures _ (standing (goal.at.overflow_sub-n c).In-loop-k),
+      c.shared.ensures _ (standing (goal.at.overflow_sub-n c).In-loop-k),
+    )
 
 pub overflow_add-n : goal.overflow_add-n
-overflow_add-n c = let i = c in let t = turn (goal.at.overflow_add-n c).In-loop-k in omega (arith, t.count, t.small, i.loop-k.invariant.2, c.times_in.ensures _ (standing (goal.at.overflow_add-n c).In-loop-k), c.shared.ensures _ (standing (goal.at.overflow_add-n c).In-loop-k))
+overflow_add-n c = let i = c in let t = turn (goal.at.overflow_add-n c).In-loop-k in
+    omega (arith, t.count, t.small, i.loop-k.invariant.2, c.times_in.ensures _ (standing (goal.at.overflow_add-n c).In-loop-k), c.shared.ensures _ (standing (goal.at.overflow_add-n c).In-loop-k))
 
 pub last_time-end-requires : goal.last_time-end-requires
 last_time-end-requires c = (c.requires, (c.loop-k.k, standing (goal.at.last_time-end-requires c).In-loop-k))
@@ -51,7 +58,8 @@ loop-k-preserved c =
     let u = c.last_time-end.ensures _ (standing (goal.at.loop-k-preserved c).In-loop-k) in (
       omega arith,
       rw (add-one l.k) (c.next_block-at.ensures l.k (standing (goal.at.loop-k-preserved c).In-loop-k)),
-      rw (add-one l.k, u) (omega (arith, t.count, l.invariant.2, c.times_in.ensures _ (standing (goal.at.loop-k-preserved c).In-loop-k), c.shared.ensures _ (standing (goal.at.loop-k-preserved c).In-loop-k))),
+      rw (add-one l.k, u)
+          (omega (arith, t.count, l.invariant.2, c.times_in.ensures _ (standing (goal.at.loop-k-preserved c).In-loop-k), c.shared.ensures _ (standing (goal.at.loop-k-preserved c).In-loop-k))),
     )
 
 pub returns : goal.returns

@@ -11,7 +11,8 @@ use Rattle.walk_table.proofs.table_length.Given as goal
 
 abbrev pub invariant-loop-k : goal.invariant-loop-k
 invariant-loop-k l =
-    (l.k ≤ l.blocks) × (l.at ≡ block_place (image_in l.image) l.k) × (l.n + length (added_times (end_of l.later l.end) (drop l.k (image_in l.image).blocks)) ≡ length (added_times none (image_in l.image).blocks))
+    (l.k ≤ l.blocks) × (l.at ≡ block_place (image_in l.image) l.k)
+    × (l.n + length (added_times (end_of l.later l.end) (drop l.k (image_in l.image).blocks)) ≡ length (added_times none (image_in l.image).blocks))
 
 abbrev pub decreases-loop-k : goal.decreases-loop-k
 decreases-loop-k l = l.blocks - l.k

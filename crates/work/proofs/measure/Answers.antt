@@ -49,7 +49,8 @@ overflow_add-result-in-Sums c =
 pub returns-in-Sums : goal.returns-in-Sums
 returns-in-Sums c =
     let a = c.args in
-    measured-data a.signals _ _ _ (items a.signals a.work.now) (found (goal.at.returns-in-Sums c).In-Sums) c.count_later.ensures (records-below a.signals a.work.now (divides (goal.at.returns-in-Sums c).In-Sums))
+    measured-data a.signals _ _ _ (items a.signals a.work.now) (found (goal.at.returns-in-Sums c).In-Sums) c.count_later.ensures
+    (records-below a.signals a.work.now (divides (goal.at.returns-in-Sums c).In-Sums))
 
 pub returns-in-Damaged : goal.returns-in-Damaged
 returns-in-Damaged c =

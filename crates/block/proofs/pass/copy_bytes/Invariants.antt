@@ -8,7 +8,8 @@ use lib.Seq.{sets}
 use Rattle.block.proofs.pass.copy_bytes.Given as goal
 
 abbrev pub invariant-loop-i : goal.invariant-loop-i
-invariant-loop-i l = (l.i ≤ l.n) × (length l.tail ≡ length l.initial.tail) × (sets l.tail (l.to + l.i) (take (l.n - l.i) (drop (l.from + l.i) l.src)) ≡ sets l.initial.tail l.to (take l.n (drop l.from l.src)))
+invariant-loop-i l = (l.i ≤ l.n) × (length l.tail ≡ length l.initial.tail)
+    × (sets l.tail (l.to + l.i) (take (l.n - l.i) (drop (l.from + l.i) l.src)) ≡ sets l.initial.tail l.to (take l.n (drop l.from l.src)))
 
 abbrev pub decreases-loop-i : goal.decreases-loop-i
 decreases-loop-i l = l.n - l.i

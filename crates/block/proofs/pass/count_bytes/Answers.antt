@@ -18,16 +18,24 @@ at_turn c = turn _ _ _ _ _ c.loop-p-test.true c.loop-p.invariant.3
 -- the same by what was read
 inside : (c : goal.After-get_u32-n) → let l = c.loop-p in
     l.p + 8 + c.get_u32-n.result ≤ length c.args.work.now
-inside c = record-inside _ _ _ _ _ _ _ ((let it : let l = c.loop-p in let a = c.args in Turn l.invariant.0 a.signals l.p a.work.now l.invariant.1 = turn _ _ _ _ _ c.loop-p-test.true c.loop-p.invariant.3 in it)) c.get_u32-g.ensures c.get_u32-n.ensures
+inside c = record-inside _ _ _ _ _ _ _
+    ((let it : let l = c.loop-p in let a = c.args in Turn l.invariant.0 a.signals l.p a.work.now l.invariant.1 = turn _ _ _ _ _ c.loop-p-test.true c.loop-p.invariant.3 in
+    it)) c.get_u32-g.ensures c.get_u32-n.ensures
 
 below : (c : goal.After-get_u32-n) → c.get_u32-g.result < c.args.signals
-below c = record-below _ _ _ _ _ _ _ ((let it : let l = c.loop-p in let a = c.args in Turn l.invariant.0 a.signals l.p a.work.now l.invariant.1 = turn _ _ _ _ _ c.loop-p-test.true c.loop-p.invariant.3 in it)) c.get_u32-g.ensures c.get_u32-n.ensures
+below c = record-below _ _ _ _ _ _ _
+    ((let it : let l = c.loop-p in let a = c.args in Turn l.invariant.0 a.signals l.p a.work.now l.invariant.1 = turn _ _ _ _ _ c.loop-p-test.true c.loop-p.invariant.3 in
+    it)) c.get_u32-g.ensures c.get_u32-n.ensures
 
 counted : (c : goal.After-get_u32-n) → let l = c.loop-p in
-    CountTurn l.invariant.1 ((let it : let l = c.loop-p in let a = c.args in Turn l.invariant.0 a.signals l.p a.work.now l.invariant.1 = turn _ _ _ _ _ c.loop-p-test.true c.loop-p.invariant.3 in it)).rest c.get_u32-g.result c.get_u32-n.result l.tail
+    CountTurn l.invariant.1
+    ((let it : let l = c.loop-p in let a = c.args in Turn l.invariant.0 a.signals l.p a.work.now l.invariant.1 = turn _ _ _ _ _ c.loop-p-test.true c.loop-p.invariant.3 in
+    it)).rest c.get_u32-g.result c.get_u32-n.result l.tail
 counted c =
     let l = c.loop-p in
-    record-count _ _ _ _ _ _ _ ((let it : let l = c.loop-p in let a = c.args in Turn l.invariant.0 a.signals l.p a.work.now l.invariant.1 = turn _ _ _ _ _ c.loop-p-test.true c.loop-p.invariant.3 in it)) c.get_u32-g.ensures c.get_u32-n.ensures l.tail l.invariant.5
+    record-count _ _ _ _ _ _ _
+    ((let it : let l = c.loop-p in let a = c.args in Turn l.invariant.0 a.signals l.p a.work.now l.invariant.1 = turn _ _ _ _ _ c.loop-p-test.true c.loop-p.invariant.3 in
+    it)) c.get_u32-g.ensures c.get_u32-n.ensures l.tail l.invariant.5
 
 pub loop-p-init : goal.loop-p-init
 loop-p-init c = (_, _, omega arith, c.requires.1, refl, c.requires.2, refl)

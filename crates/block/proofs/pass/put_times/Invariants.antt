@@ -10,7 +10,8 @@ use Rattle.block.proofs.pass.put_times.Given as goal
 
 abbrev pub invariant-loop-i : goal.invariant-loop-i
 invariant-loop-i l =
-    (l.i ≤ l.held) × (l.p ≡ l.at + 8 * l.i) × (length l.tail ≡ length l.initial.tail) × (sets l.tail l.p (les 8 (take (l.held - l.i) (drop l.i l.times))) ≡ sets l.initial.tail l.at (les 8 (take l.held l.times)))
+    (l.i ≤ l.held) × (l.p ≡ l.at + 8 * l.i) × (length l.tail ≡ length l.initial.tail)
+    × (sets l.tail l.p (les 8 (take (l.held - l.i) (drop l.i l.times))) ≡ sets l.initial.tail l.at (les 8 (take l.held l.times)))
 
 abbrev pub decreases-loop-i : goal.decreases-loop-i
 decreases-loop-i l = l.held - l.i

@@ -12,7 +12,9 @@ standing c = record { exists = omega (arith, c.if-block_count-block.false, c.blo
 
 found : (c : goal.After-part_in) → PartHere c.part_in.result.from c.part_in.result.to c.part_in.result.top
     c.args.block c.args.signal c.args.image.now
-found c = c.part_in.ensures c.args.block ((let it : BlockHere c.args.block c.block_start.result c.args.image.now = record { exists = omega (arith, c.if-block_count-block.false, c.block_count.ensures); place = c.block_start.ensures } in it))
+found c = c.part_in.ensures c.args.block
+    ((let it : BlockHere c.args.block c.block_start.result c.args.image.now =
+    record { exists = omega (arith, c.if-block_count-block.false, c.block_count.ensures); place = c.block_start.ensures } in it))
 
 past : (c : goal.Then-block_count-block) → length (image_in c.args.image.now).blocks ≤ c.args.block
 past c = omega (arith, c.if-block_count-block.true, c.block_count.ensures)

@@ -23,7 +23,13 @@ sized c =
 past : (c : goal.After-first_block-head) → let a = c.args in c.first_block-head.result ≤ length a.second.now
 past c =
     let s = c in
-    omega (arith, ((let it : let a = c.args in Sizes a.first.now a.second.now = let s = c in sizes-of s.args.first.now s.args.second.now (λ j. (c.shared_slice_known-1.given j).fits) (λ j. (c.shared_slice_known-2-1.given j).fits) s.requires.opened.0 s.requires.opened.1 s.requires.opened.2 in it)).past, c.first_block-head.ensures ∙ first-place (image_in s.args.second.now))
+    omega (
+      arith,
+      ((let it : let a = c.args in Sizes a.first.now a.second.now = let s = c in
+          sizes-of s.args.first.now s.args.second.now (λ j. (c.shared_slice_known-1.given j).fits)
+          (λ j. (c.shared_slice_known-2-1.given j).fits) s.requires.opened.0 s.requires.opened.1 s.requires.opened.2 in it)).past,
+      c.first_block-head.ensures ∙ first-place (image_in s.args.second.now),
+    )
 
 pub overflow_add-n : goal.overflow_add-n
 overflow_add-n c = let z = sized c in omega (arith, z.few, z.few-more, c.block_count.ensures, c.block_count-2.ensures)

@@ -26,7 +26,8 @@ pub returns-then-spells-2 : goal.returns-then-spells-2
 returns-then-spells-2 c = kind-real _ (not-event (goal.at.returns-then-spells-2 c).Else-spells) (sym c.spells-2.ensures ∙ c.if-spells-2.true)
 
 pub returns-then-spells-3 : goal.returns-then-spells-3
-returns-then-spells-3 c = kind-absent _ (not-event (goal.at.returns-then-spells-3 c).Else-spells) (not-real (goal.at.returns-then-spells-3 c).Else-spells-2) (sym c.spells-3.ensures ∙ c.if-spells-3.true)
+returns-then-spells-3 c = kind-absent _ (not-event (goal.at.returns-then-spells-3 c).Else-spells) (not-real (goal.at.returns-then-spells-3 c).Else-spells-2)
+    (sym c.spells-3.ensures ∙ c.if-spells-3.true)
 
 pub returns-in-Value : goal.returns-in-Value
 returns-in-Value c =

@@ -12,7 +12,8 @@ use Rattle.listing_text.proofs.entries.put_entries.Given as goal
 abbrev pub invariant-loop-i : goal.invariant-loop-i
 invariant-loop-i l =
     (l.i ≤ length l.index) × (l.from ≤ length l.bytes) × (length l.symbols ≡ length l.initial.symbols) × (entries_there l.kind (class_number l.class) (drop l.i l.index) (drop l.from l.bytes) ≡ true)
-    × Left (entry_lines (entries_read l.kind (class_number l.class) (drop l.i l.index) (drop l.from l.bytes))) l.p l.out (entry_lines (entries_read l.kind (class_number l.class) l.index l.bytes)) l.at l.initial.out
+    × Left (entry_lines (entries_read l.kind (class_number l.class) (drop l.i l.index) (drop l.from l.bytes))) l.p l.out
+    (entry_lines (entries_read l.kind (class_number l.class) l.index l.bytes)) l.at l.initial.out
 
 abbrev pub decreases-loop-i : goal.decreases-loop-i
 decreases-loop-i l = length l.index - l.i

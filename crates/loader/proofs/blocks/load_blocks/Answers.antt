@@ -34,7 +34,8 @@ overflow_sub-base c =
     let f = t in
     let a = f.args in
     shared-small a.image.now a.signal (class_number a.class) a.write a.index.now a.bytes.now l.number l.at l.times l.later l.end l.state l.index l.bytes
-    (λ j. (f.shared_slice_known-1.given j).fits) f.requires.0 l.invariant (below (goal.at.overflow_sub-base c).In-loop-number) _ (c.shared.ensures l.number (found (goal.at.overflow_sub-base c).In-loop-number))
+    (λ j. (f.shared_slice_known-1.given j).fits) f.requires.0 l.invariant (below (goal.at.overflow_sub-base c).In-loop-number) _
+    (c.shared.ensures l.number (found (goal.at.overflow_sub-base c).In-loop-number))
 
 pub load_block-state-requires : goal.load_block-state-requires
 load_block-state-requires c =

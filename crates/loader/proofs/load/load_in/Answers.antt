@@ -43,7 +43,12 @@ nonzero_div-most c = let t = c in omega (arith, least-any t.kind_at-kind.result,
 pub lacks_room-requires : goal.lacks_room-requires
 lacks_room-requires c =
     let t = c in
-    let m = t.measure_blocks-measured in record { opened = (t.requires, t.kind_at-kind.ensures, class-is (goal.at.lacks_room-requires c).After-least_len); image_len_bound = (few (goal.at.lacks_room-requires c).After-least_len, omega (arith, div-le_self m.result.bytes t.least_len.result, m.ensures.2)) }
+    let m = t.measure_blocks-measured in
+    record {
+      opened = (t.requires, t.kind_at-kind.ensures, class-is (goal.at.lacks_room-requires c).After-least_len);
+      image_len_bound =
+          (few (goal.at.lacks_room-requires c).After-least_len, omega (arith, div-le_self m.result.bytes t.least_len.result, m.ensures.2));
+    }
 
 pub returns-then-lacks_room : goal.returns-then-lacks_room
 returns-then-lacks_room c =
@@ -64,7 +69,8 @@ load_blocks-written-requires c =
       omega (arith, class-is (goal.at.load_blocks-written-requires c).After-least_len),
       room-all a.image.now a.signal t.kind_at-kind.result a.index.now a.bytes.now
           (class_number t.from_number-class.result) r.lacks_room.new.index r.lacks_room.new.bytes
-          t.kind_at-kind.ensures (fits (goal.at.load_blocks-written-requires c).After-least_len) (class-is (goal.at.load_blocks-written-requires c).After-least_len) r.lacks_room.ensures.1 r.lacks_room.ensures.2 _
+          t.kind_at-kind.ensures (fits (goal.at.load_blocks-written-requires c).After-least_len)
+          (class-is (goal.at.load_blocks-written-requires c).After-least_len) r.lacks_room.ensures.1 r.lacks_room.ensures.2 _
           t.is_absent.ensures t.if-is_absent.false _ r.lacks_room.ensures.0 c.if-lacks_room.false,
     )
 

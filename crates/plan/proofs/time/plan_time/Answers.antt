@@ -22,7 +22,10 @@ refusal_is c = rw (c.no_probe-foreign.ensures, c.requires) at c.state_refusal-n.
 
 none : (c : goal.Else-n-ne0) → let a = c.args in
     first (state_tests a.state (no_probe a.stamp.sender) a.lent.records (length a.times.now) (length a.work.now) a.lent.image) ≡ 0
-none c = sym ((let it : let a = c.args in c.state_refusal-n.result ≡ first (state_tests a.state (no_probe a.stamp.sender) a.lent.records (length a.times.now) (length a.work.now) a.lent.image) = rw (c.no_probe-foreign.ensures, c.requires) at c.state_refusal-n.ensures in it)) ∙ c.if-n-ne0.false
+none c = sym
+    ((let it : let a = c.args in
+    c.state_refusal-n.result ≡ first (state_tests a.state (no_probe a.stamp.sender) a.lent.records (length a.times.now) (length a.work.now) a.lent.image) =
+    rw (c.no_probe-foreign.ensures, c.requires) at c.state_refusal-n.ensures in it)) ∙ c.if-n-ne0.false
 
 pub returns-then-n-ne0 : goal.returns-then-n-ne0
 returns-then-n-ne0 c =
