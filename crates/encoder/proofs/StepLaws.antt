@@ -37,7 +37,8 @@ pub started-out : (settings : Settings) (s : Encoder) (rs rs' : List SignalRecor
     → j ≡ begin_in settings (any_bad rs) (length rs) (length t) i
     → rs' ≡ first_by fresh (begin_of s settings (any_bad rs) (length rs) (length t) (length i)).turns rs
     → l ≡ kinds_put (begin_of s settings (any_bad rs) (length rs) (length t) (length i)).turns rs j
-    → after (reply_of (begin_of s settings (any_bad rs) (length rs) (length t) (length i)).outcome.answer) (memory (begin_of s settings (any_bad rs) (length rs) (length t) (length i)).outcome.state rs' t [] l)
+    → after (reply_of (begin_of s settings (any_bad rs) (length rs) (length t) (length i)).outcome.answer)
+    (memory (begin_of s settings (any_bad rs) (length rs) (length t) (length i)).outcome.state rs' t [] l)
     ≡ start_carried settings (memory s rs t [] i)
 started-out settings s rs rs' t i j l a b c = rw (b, c, a) refl
 
