@@ -8,7 +8,7 @@ mod show;
 
 use ask::ask;
 use std::io;
-use std::io::{BufWriter, Write};
+use std::io::Write;
 use text::number::hex_bytes;
 use text::{before, between, byte_at, past, read_full, word};
 
@@ -61,7 +61,5 @@ fn zeros() -> [u8; 425984] {
 fn main(rt: HostRuntime) -> io::Result<()> {
     let mut sheet = zeros();
     let n = read_full(&mut rt.stdin(), &mut sheet)?;
-    let mut to = BufWriter::new(rt.alloc(), rt.stdout())?;
-    take_sheet(&mut to, &sheet[..n])?;
-    to.flush()
+    take_sheet(&mut rt.stdout(), &sheet[..n])
 }

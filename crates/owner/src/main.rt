@@ -20,7 +20,7 @@ use sheet::run::{
 };
 use sheet::{lent_bytes, lent_numbers, line_end, value_digits};
 use std::io;
-use std::io::{BufWriter, Write};
+use std::io::Write;
 use text::{before, between, read_full};
 
 // A start finds records of its kinds, any other call those of the call before.
@@ -132,7 +132,5 @@ fn take_sheet<W: Write>(to: &mut W, sheet: &[u8]) -> io::Result<()> {
 fn main(rt: HostRuntime) -> io::Result<()> {
     let mut sheet = [0u8; 8192];
     let n = read_full(&mut rt.stdin(), &mut sheet)?;
-    let mut to = BufWriter::new(rt.alloc(), rt.stdout())?;
-    take_sheet(&mut to, &sheet[..n])?;
-    to.flush()
+    take_sheet(&mut rt.stdout(), &sheet[..n])
 }

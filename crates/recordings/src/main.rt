@@ -2,10 +2,7 @@
 #![tactic(auto)]
 
 use std::io;
-use std::io::{BufWriter, Write};
 
 fn main(rt: HostRuntime) -> io::Result<()> {
-    let mut to = BufWriter::new(rt.alloc(), rt.stdout())?;
-    sheet::tests::replay(&mut rt.stdin(), &mut to, 0)?;
-    to.flush()
+    sheet::tests::replay(&mut rt.stdin(), &mut rt.stdout(), 0)
 }

@@ -3,10 +3,7 @@
 #![tactic(auto)]
 
 use std::io;
-use std::io::{BufWriter, Write};
 
 fn main(rt: HostRuntime) -> io::Result<()> {
-    let mut to = BufWriter::new(rt.alloc(), rt.stdout())?;
-    sheet::tests::replay(&mut rt.stdin(), &mut to, 1)?;
-    to.flush()
+    sheet::tests::replay(&mut rt.stdin(), &mut rt.stdout(), 1)
 }

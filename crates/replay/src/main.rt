@@ -7,7 +7,7 @@ mod question;
 
 use answer::answer;
 use std::io;
-use std::io::{BufWriter, Write};
+use std::io::Write;
 use text::{between, past, read_full};
 
 // Answers each line. The text ends in a line feed.
@@ -28,7 +28,5 @@ fn zeros() -> [u8; 262144] {
 fn main(rt: HostRuntime) -> io::Result<()> {
     let mut input = zeros();
     let n = read_full(&mut rt.stdin(), &mut input)?;
-    let mut to = BufWriter::new(rt.alloc(), rt.stdout())?;
-    replay(&mut to, &input[..n])?;
-    to.flush()
+    replay(&mut rt.stdout(), &input[..n])
 }

@@ -9,7 +9,7 @@ use signal::decode::DecodedChange;
 use signal::kind::SignalEncoding;
 use signal_decode::{decode_raw, decode_vcd};
 use std::io;
-use std::io::{BufWriter, Write};
+use std::io::Write;
 use text::{before, print, print_bytes, print_hex, print_number};
 
 fn print_count<W: Write>(to: &mut W, name: &[u8], n: u64) -> io::Result<()> {
@@ -176,7 +176,5 @@ fn print_all<W: Write>(to: &mut W) -> io::Result<()> {
 }
 
 fn main(rt: HostRuntime) -> io::Result<()> {
-    let mut to = BufWriter::new(rt.alloc(), rt.stdout())?;
-    print_all(&mut to)?;
-    to.flush()
+    print_all(&mut rt.stdout())
 }

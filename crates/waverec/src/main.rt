@@ -11,7 +11,7 @@ use lines::take_lines;
 use sheet::answer::print_image;
 use sheet::run::{OWN, fresh_run};
 use std::io;
-use std::io::{BufWriter, Read, Write};
+use std::io::{Read, Write};
 use std::rt::Env;
 use text::{argument, before, has_argument, print, read_full};
 
@@ -85,7 +85,5 @@ fn replay_as_asked<W: Write>(rt: &(impl Env + Input), to: &mut W) -> io::Result<
 }
 
 fn main(rt: HostRuntime) -> io::Result<()> {
-    let mut to = BufWriter::new(rt.alloc(), rt.stdout())?;
-    replay_as_asked(&rt, &mut to)?;
-    to.flush()
+    replay_as_asked(&rt, &mut rt.stdout())
 }
