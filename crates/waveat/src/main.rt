@@ -4,8 +4,9 @@
 // The text is the crate cursor_text's; its contract cites specs/At.antt there. What a number is stands in the crate digits.
 #![tactic(auto)]
 
-ghost use Rattle.std.specs.Prelude.{◌≤◌, length};
-ghost use Rattle.cursor_text.specs.At.{at_limit};
+ghost use Rattle.std.specs.Prelude.{◌≤◌, OnOk, length};
+ghost use Rattle.std.specs.Io.KnownBytes.{Appends};
+ghost use Rattle.cursor_text.specs.At.{at_limit, at_of};
 
 use cursor_text::at_text;
 use digits::{Number, decimal};
@@ -26,18 +27,24 @@ fn time_asked(rt: &impl Env) -> Number {
     decimal(&word[..n], 18446744073709551615)
 }
 
+// Writes the text, and nothing else, by way of a buffer that every such text fits into.
 fn print_at<W: Write>(to: &mut W, image: &[u8], t: u64, out: &mut [u8]) -> io::Result<()>
     requires { at_limit ≤ length out.old }
+    ensures { OnOk result (Appends (W.contents to.old) (W.contents to.new) (at_of image.now t)) }
 {
     let n = at_text(image, t, out);
     to.write_all(&out[..n])
+}
+
+fn no_text() -> [u8; 524288] {
+    [0u8; 524288]
 }
 
 // One byte more than an image may have tells a longer input.
 fn print_input<R: Read, W: Write>(from: &mut R, to: &mut W, t: u64) -> io::Result<()> {
     let mut input = [0u8; 16385];
     let n = read_full(from, &mut input)?;
-    let mut out = [0u8; 524288];
+    let mut out = no_text();
     print_at(to, &input[..n], t, &mut out)
 }
 
