@@ -6,13 +6,12 @@
 #![tactic(auto)]
 
 mod calls;
-mod records;
+mod two_records;
 
 use calls::perform;
 use line::hex::put_hex;
 use owned::Kept;
 use recording::SignalRecord;
-use records::{names_one, no_records, records_for};
 use sheet::answer::print_made;
 use sheet::run::{
     BOTH, CALL, FINISH, IMAGE, Run, START, TIMES, WORK, flag, fresh_run, given_of, probes_of,
@@ -22,6 +21,7 @@ use sheet::{lent_bytes, lent_numbers, line_end, value_digits};
 use std::io;
 use std::io::Write;
 use text::{before, between, read_full};
+use two_records::{names_one, no_records, records_for};
 
 // A start finds records of its kinds, any other call those of the call before.
 fn begun(run: &Run, line: &[u8], records: [SignalRecord; 2]) -> [SignalRecord; 2] {
