@@ -36,7 +36,7 @@ unfolding symbol_of class_of_all symbols_in last_or vcd_bit decode way_of tell t
 history-keeps = (refl, refl, refl, refl, refl)
 
 -- document 02, (j): an equal time leaves the skip in edition 1, and ends it in edition 2, by the same answers and counts as the recorder's
--- (recording/proofs/Cases: same-stands, same-ends)
+-- (recording/proofs/Cases: same-stands, same_ends)
 pub same-told : let h = tell_all (BitVector 1 ∷ []) 1 no_history sames (replicate 10 false) in
     (h.answers ≡ taken ∷ back ∷ skipped ∷ calls.same ∷ skipped ∷ calls.same ∷ skipped ∷ back ∷ back ∷ skipped ∷ [])
     × (h.last.times ≡ 10 ∷ []) × (h.last.skips.zero.count ≡ 4) × (kept_of h.last 0 ≡ [])

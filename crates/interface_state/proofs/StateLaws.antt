@@ -1,23 +1,13 @@
--- Numbers that cross as a state: what a flag becomes, that a state that does not change keeps its numbers, and that the numbers of any
--- state are read as that state.
+-- Numbers that cross as a state: a state that does not change keeps its numbers, and the numbers of any state are read as that state.
 -- Assumes nothing.
 use Prim.Native.Nat.{ℕ}
 use mathlib.Core.Path.{◌≡◌, refl}
 use mathlib.Core.Bool.{Bool, true, false}
 use lib.Dec.{eqb}
-use borrow.Author.Tests.{ne_eqb, eqb-true}
+use borrow.Author.Tests.{eqb-true}
 use Rattle.recording.specs.declared.Encoder.{Encoder}
 use Rattle.interface_state.specs.declared.StateNumbers.{StateNumbers}
 use Rattle.interface_state.specs.State.{flag_from, flag_after, state_from, state_after}
-
-pub flag_off : (n : ℕ) (b : Bool) → b ≡ false → 0 ≡ flag_after n b
-flag_off n b e = rw e refl
-
-pub flag-set : (n : ℕ) (b : Bool) → b ≡ true → n ≡ 0 → 1 ≡ flag_after n b
-flag-set n b e z = rw (e, z) refl
-
-pub flag-stays : (n : ℕ) (b : Bool) → b ≡ true → (n ≡ 0 → ⊥) → n ≡ flag_after n b
-flag-stays n b e z = rw (e, ne_eqb n 0 z) refl
 
 -- by whether the number is 0
 flag-same-by : (n : ℕ) (t : Bool) → eqb n 0 ≡ t → flag_after n (flag_from n) ≡ n

@@ -13,7 +13,7 @@ pub sets-append : (a b l : List ℕ) (i : ℕ) → sets l i (a ++ b) ≡ sets (s
 sets-append [] b l i = simp add-zero
 sets-append (x ∷ a) b l i = sets-append a b (set l i x) (suc i) ∙ simp (suc-add, add-suc)
 
--- what a callee that was lent the k elements from a on stored there, said of the whole: `put_mid` is the form that the needs have
+-- what a callee that was lent the k elements from a on stored there, said of the whole: `put_mid` is the form that the goals have
 pub sets-part : (vs xs : List ℕ) (a k j : ℕ) → j + length vs ≤ k → put_mid a k xs (sets (mid_of a k xs) j vs) ≡ sets xs (a + j) vs
 sets-part [] xs a k j h = put_same a k xs
 sets-part (v ∷ vs) xs a k j h =

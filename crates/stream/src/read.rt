@@ -5,7 +5,7 @@ use signal::decode::ChangeValue;
 pub const MAX_DELTA: u32 = 65534;
 
 // The index less the one before, the value and the place after the change. A change's bytes are its number and then its value
-// (proofs/StreamTrip.antt: written-read), so a wider vector's packed bytes end at that place.
+// (proofs/StreamTrip.antt: written_read), so a wider vector's packed bytes end at that place.
 #[derive(Clone, Copy)]
 pub enum ReadChange {
     Change(u32, ChangeValue, usize),

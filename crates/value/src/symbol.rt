@@ -31,7 +31,7 @@ const BIT_CHAR_TO_NUM: [u8; 256] = [
     255, 255, 255, 255,
 ];
 
-// The table's number of a byte. The table is made anew at each use: what goes through many letters does without it.
+// The table's number of a byte. Width 1 reads it; what goes through many letters goes by cases of the letter (letter.rt).
 fn table_number(value: u8) -> u8
     ensures { result ≡ or_number 255 (symbol_of value) }
 {

@@ -1,6 +1,6 @@
 -- By the flag and its number.
 -- Assumes nothing.
-use Rattle.interface_state.proofs.StateLaws.{flag_off, flag-set, flag-stays}
+use Rattle.interface_state.proofs.FlagLaws.{flag_off, flag-set, flag-stays}
 use Rattle.interface_state.proofs.flag_after.Goals as goal
 
 pub returns-then-not-on : goal.returns-then-not-on
