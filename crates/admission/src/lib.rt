@@ -7,39 +7,37 @@
 ghost use Rattle.std.specs.Prelude.{◌≡◌};
 ghost use Rattle.recording.specs.Memory.{first};
 ghost use Rattle.recording.specs.Refusals.{signal_tests};
-ghost use Rattle.admission.specs.Stages.{admission_of};
+ghost use Rattle.refusal.specs.Refusal.{refused_number};
+ghost use Rattle.admission.specs.Stages.{numbered, admission_of};
 
 use recording::{Encoder, Lengths, SignalRecord, Target, no_probe};
+use refusal::Refusal;
 use refusals::state_refusal;
 
 pub mod changed;
 pub mod item;
 
-// Whether a change's value is looked at.
-#[derive(Clone, Copy)]
+// Whether the value of a change that is not refused is looked at.
+#[derive(Clone, Copy, PartialEq, Eq)]
 pub enum Admission {
-    Refused(u32),
     Skipped,
-    // The value is looked at.
     Taken,
 }
 
-// 4, by the number or an absent kind; 18, where the record does not name the sender; 0 where neither holds.
-fn signal_refusal(state: Encoder, kept: SignalRecord, target: Target) -> u32
-    ensures { result ≡ first (signal_tests state kept target.sender target.signal.0) }
+// 4, by the number or an absent kind; 18, where the record does not name the sender.
+fn signal_refusal(state: Encoder, kept: SignalRecord, target: Target) -> Result<(), Refusal>
+    ensures { refused_number result ≡ first (signal_tests state kept target.sender target.signal.0) }
 {
     if state.signals <= target.signal.0 {
-        return 4;
+        return Err(Refusal::NoSignal);
     }
-    let kind = kept.kind;
-    let probe = kept.probe as u32;
-    if kind.is_absent() {
-        4
-    } else if probe != target.sender {
-        18
-    } else {
-        0
+    if kept.kind.is_absent() {
+        return Err(Refusal::NoSignal);
     }
+    if u32::from(kept.probe) != target.sender {
+        return Err(Refusal::Foreign);
+    }
+    Ok(())
 }
 
 // 2, 18 of the sender, 10 (first group), 3, the sender's skip, 4, 18 of the record, in this order.
@@ -49,24 +47,17 @@ pub fn admitted(
     lent: Lengths,
     work: usize,
     target: Target,
-) -> Admission
-    ensures { result ≡ admission_of state kept lent.records lent.times work lent.image target.sender target.signal.0 }
+) -> Result<Admission, Refusal>
+    ensures { numbered result ≡ admission_of state kept lent.records lent.times work lent.image target.sender target.signal.0 }
 {
     let foreign = no_probe(target.sender);
-    let n = state_refusal(state, foreign, lent, work);
-    if n != 0 {
-        return Admission::Refused(n);
-    }
+    state_refusal(state, foreign, lent, work)?;
     if state.held == 0 {
-        return Admission::Refused(3);
+        return Err(Refusal::BeforeTime);
     }
-    let skips = state.skips;
-    if skips.of(target.sender).on {
-        return Admission::Skipped;
+    if state.skips.of(target.sender).on {
+        return Ok(Admission::Skipped);
     }
-    let why = signal_refusal(state, kept, target);
-    if why != 0 {
-        return Admission::Refused(why);
-    }
-    Admission::Taken
+    signal_refusal(state, kept, target)?;
+    Ok(Admission::Taken)
 }

@@ -1,12 +1,14 @@
 -- Texts put one after the other.
 -- Assumes nothing.
-use Prim.Native.Nat.{ℕ, ◌+◌, ◌≤◌}
+use Prim.Native.Nat.{ℕ, ◌+◌, ◌-◌, ◌≤◌}
 use mathlib.Core.Path.{◌≡◌, refl, sym, ap, ◌∙◌, subst}
 use mathlib.Core.List.{List, [], ◌∷◌, ◌++◌}
 use native.Mathlib.Omega.{arith}
 use native.Mathlib.Nat.{add-zero}
-use lib.ListN.{length, set, take, length-append}
-use lib.Seq.{sets, length-sets}
+use lib.ListN.{length, set, take, drop, length-append}
+use borrow.Rule.Slice.PartMut.{put_mid}
+use Rattle.std.proofs.Common.{append_assoc}
+use lib.Seq.{sets, sets-eq, length-sets, drop-drop}
 use Rattle.lists.proofs.SetsLaws.{sets-append, taken_back}
 use Rattle.ascii.specs.Put.{Room, Puts}
 
@@ -15,6 +17,14 @@ puts_none {at} {l} = record { place = sym (add-zero at); held = refl }
 
 pub puts_one : {x y at : ℕ} {l : List ℕ} → y ≡ x → Puts (x ∷ []) at l (at + 1) (set l at y)
 puts_one {x} {y} {at} {l} e = record { place = refl; held = ap (set l at) e }
+
+-- a text copied over the bytes from a place on; `put_mid` is the form that the goals have
+pub puts-copied : (text copy : List ℕ) (at : ℕ) (l : List ℕ) → Room text at l → copy ≡ text
+    → Puts text at l (at + length text) (put_mid at (at + length text - at) l copy)
+puts-copied text copy at l room e =
+    let k : at + length text - at ≡ length text = omega arith in
+    let d : drop (length text) (drop at l) ≡ drop (at + length text) l = drop-drop (length text) at l in
+    record { place = refl; held = rw (k, e, sets-eq text l at room.inside, d) (simp append_assoc) }
 
 pub puts-append : {a b : List ℕ} {at p r : ℕ} {l m n : List ℕ} → Puts a at l p m → Puts b p m r n → Puts (a ++ b) at l r n
 puts-append {a} {b} {at} {p} {r} {l} {m} {n} x y = record {

@@ -8,14 +8,9 @@ pub fn put_text(out: &mut [u8], at: usize, text: &[u8]) -> usize
     requires { Room text.now at out.old }
     ensures { Puts text.now at out.old result out.new }
 {
-    let mut p = at;
-    let mut i = 0;
-    while i < text.len() {
-        out[p] = text[i];
-        p += 1;
-        i += 1;
-    }
-    p
+    let end = at + text.len();
+    out[at..end].copy_from_slice(text);
+    end
 }
 
 fn digit(d: u64) -> u8
@@ -23,9 +18,10 @@ fn digit(d: u64) -> u8
     ensures { result ≡ digit_code d }
 {
     if d < 10 {
-        return 48 + d as u8;
+        b'0' + d as u8
+    } else {
+        b'a' + (d as u8 - 10)
     }
-    87 + d as u8
 }
 
 fn put_digit(out: &mut [u8], at: usize, d: u64) -> usize

@@ -7,6 +7,7 @@ ghost use Rattle.recording.specs.Work.{items_in};
 ghost use Rattle.block.specs.Passes.{kept_at, keep, clear, count, begun, next_part, scatter, end_of, settled, settle, Counts, Scatters, Settles};
 ghost use Rattle.block.specs.Given.{Divides};
 
+use copy::put_part;
 use image::SignalDataOffset;
 use image::layout::offset_place;
 use numbers::little_endian::{get_u32, put_u32, put_u64};
@@ -32,32 +33,24 @@ pub fn put_times(tail: &mut [u8], at: usize, times: &[u64], held: usize)
     requires { (held ≤ length times.now) × (at + 8 * held ≤ length tail.old) }
     ensures { tail.new ≡ sets tail.old at (les 8 (take held times.now)) }
 {
-    let mut i = 0;
     let mut p = at;
-    while i < held {
+    for i in 0..held {
         p = put_u64(tail, p, times[i]);
-        i += 1;
     }
 }
 
-// Copies n bytes of src from a place on. Most records have one byte or two, for which a loop is dear.
+// Copies n bytes of src from a place on. Most records have one byte or two, for which a call that copies any number is dear.
 fn copy_bytes(tail: &mut [u8], to: usize, src: &[u8], from: usize, n: usize)
     requires { (to + n ≤ length tail.old) × (from + n ≤ length src.now) }
     ensures { tail.new ≡ sets tail.old to (take n (drop from src.now)) }
 {
     if n == 1 {
         tail[to] = src[from];
-        return;
-    }
-    if n == 2 {
+    } else if n == 2 {
         tail[to] = src[from];
         tail[to + 1] = src[from + 1];
-        return;
-    }
-    let mut i = 0;
-    while i < n {
-        tail[to + i] = src[from + i];
-        i += 1;
+    } else {
+        put_part(tail, to, src, from, n);
     }
 }
 
@@ -66,11 +59,8 @@ pub fn clear_kept(tail: &mut [u8], signals: u32)
     requires { times_place signals ≤ length tail.old }
     ensures { tail.new ≡ clear 0 signals tail.old }
 {
-    let n = signals as usize;
-    let mut g: usize = 0;
-    while g < n {
+    for g in 0..signals as usize {
         keep_for(tail, g, 0);
-        g += 1;
     }
 }
 
@@ -80,6 +70,7 @@ pub fn count_bytes(tail: &mut [u8], work: &[u8], signals: u32)
     ensures { tail.new ≡ count (items_in signals work.now) tail.old }
 {
     let mut p = 0;
+    // A while: where the next record begins stands in this one.
     while p < work.len() {
         let g = get_u32(work, p) as usize;
         let n = get_u32(work, p + 4);
@@ -110,6 +101,8 @@ pub fn scatter_work(tail: &mut [u8], d: usize, work: &[u8], signals: u32)
     ensures { tail.new ≡ scatter d (items_in signals work.now) tail.old }
 {
     let mut p = 0;
+    // A while, as in `count_bytes`. One walk for both, which takes a closure, is no plainer: the closure writes the part that it is lent, and
+    // each walk has an invariant of its own.
     while p < work.len() {
         let g = get_u32(work, p) as usize;
         let n = get_u32(work, p + 4);
@@ -148,11 +141,8 @@ pub fn settle_offsets(tail: &mut [u8], signals: u32)
     requires { (times_place signals ≤ length tail.old) × Settles 0 0 signals tail.old }
     ensures { tail.new ≡ settle 0 0 signals tail.old }
 {
-    let n = signals as usize;
     let mut o: u32 = 0;
-    let mut g: usize = 0;
-    while g < n {
+    for g in 0..signals as usize {
         o = settle_offset(tail, o, g);
-        g += 1;
     }
 }

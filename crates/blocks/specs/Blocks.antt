@@ -1,7 +1,7 @@
 -- A block at a place, as the code answers it: the place after it and its last time; its front and its body by tests.
 -- Assumes nothing.
-use Rattle.std.specs.Prelude.{ℕ, ◌+◌, ◌-◌, ◌≤◌, Bool, List, leb, eqb, length, take, drop}
-use Rattle.std.proofs.Math.Option.{Option}
+use Rattle.std.specs.Prelude.{ℕ, ◌+◌, ◌-◌, ◌≤◌, Bool, List, leb, eqb, length, take, drop, Option, Some, None}
+use Rattle.std.proofs.Math.Option as math
 use Rattle.lists.specs.Choice.{pick}
 use Rattle.lists.specs.Got.{Got, bad, got}
 use Rattle.lists.specs.Last.{last_or}
@@ -13,20 +13,19 @@ use Rattle.form.specs.Decide.{le?, both}
 use Rattle.codec.specs.Walk.{walk_block}
 use Rattle.reading.specs.Decided.{is_yes, uints}
 use Rattle.reading.specs.Times.{times_at}
-use Rattle.reading.specs.declared.times.Times.{Times}
-use Rattle.reading.specs.declared.times.Times.TheVariants as times
 use Rattle.parts.specs.Parts.{are_parts, kinds_at}
 use Rattle.blocks.specs.declared.BlockFront.{BlockFront}
-use Rattle.blocks.specs.declared.BlockFront.TheVariants as front
 use Rattle.blocks.specs.declared.NextBlock.{NextBlock}
-use Rattle.blocks.specs.declared.NextBlock.TheVariants.{At, Wrong}
+
+abbrev pub block_to : (next last : ℕ) → NextBlock
+block_to p u = record { next = p; last = u }
 
 -- of a list of n bytes: the place after the block is n less the rest
-abbrev pub next_block : (n : ℕ) → Got (Block (List Entry)) → NextBlock
-next_block n bad = Wrong
-next_block n (got b r) = At (n - length r) (last_or 0 b.times)
+abbrev pub next_block : (n : ℕ) → Got (Block (List Entry)) → Option NextBlock
+next_block n bad = None
+next_block n (got b r) = Some (block_to (n - length r) (last_or 0 b.times))
 
-unfoldable pub next_block_at : (limit : ℕ) → List SignalEncoding → (end : Option ℕ) → List ℕ → (at : ℕ) → NextBlock
+unfoldable pub next_block_at : (limit : ℕ) → List SignalEncoding → (end : math.Option ℕ) → List ℕ → (at : ℕ) → Option NextBlock
 next_block_at limit ks end s at = next_block (length s) ((walk_block limit ks end).get (drop at s))
 
 -- the numbers in front of a block's offsets
@@ -53,14 +52,18 @@ front_tests S limit s at x y =
     tests (leb (at + times_place S) (length s)) (eqb S (signals_in s at)) (leb (block_size S (times_in s at) 0) (size_in s at)) (is_yes (times_fit? limit (times_in s at)))
     (leb (at + size_in s at) (length s)) x y
 
-unfoldable pub front_at : (signals limit : ℕ) → List ℕ → (at : ℕ) → BlockFront
-front_at S limit s at = front_tests S limit s at (front.Sizes (size_in s at) (times_in s at)) front.Wrong
+abbrev pub front_of : (size times : ℕ) → BlockFront
+front_of z n = record { size = z; times = n }
 
-abbrev pub after_times : Times → (parts : Bool) → (next : ℕ) → NextBlock
-after_times times.Wrong t p = Wrong
-after_times (times.Last u) t p = pick t (At p u) Wrong
+unfoldable pub front_at : (signals limit : ℕ) → List ℕ → (at : ℕ) → Option BlockFront
+front_at S limit s at = front_tests S limit s at (Some (front_of (size_in s at) (times_in s at))) None
 
-unfoldable pub body_at : (signals size times : ℕ) → List ℕ → (at : ℕ) → (later : Bool) → (end : ℕ) → NextBlock
-body_at S z n s at later end =
-    after_times (times_at n s (at + times_place S) later end)
+-- by the last time, where the times are a block's
+abbrev pub after_times : (last : Option ℕ) → (parts : Bool) → (next : ℕ) → Option NextBlock
+after_times None t p = None
+after_times (Some u) t p = pick t (Some (block_to p u)) None
+
+unfoldable pub body_at : (signals size times : ℕ) → List ℕ → (at : ℕ) → (end : Option ℕ) → Option NextBlock
+body_at S z n s at end =
+    after_times (times_at n s (at + times_place S) end)
     (are_parts (drop (at + block_size S n 0) s) (z - block_size S n 0) n (kinds_at S s 16) (uints 4 S s (at + 12))) (at + z)

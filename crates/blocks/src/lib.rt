@@ -4,8 +4,8 @@
 #![tactic(auto)]
 
 ghost use Rattle.std.specs.Prelude.{◌≡◌, ◌+◌, ◌≤◌, ◌<◌, length};
-ghost use Rattle.codec.specs.Ends.{end_of};
 ghost use Rattle.reading.specs.Decided.{is_yes};
+ghost use Rattle.reading.specs.Times.{end_of};
 ghost use Rattle.parts.specs.Parts.{kinds_at};
 ghost use Rattle.image.specs.Block.{block_size};
 ghost use Rattle.image.specs.Head.{head_size};
@@ -16,20 +16,20 @@ use image::layout::{
 };
 use numbers::little_endian::get_u32;
 use parts::are_parts;
-use reading::times::{Times, times_at};
+use reading::times::times_at;
 
-// How many bytes and how many times a block has, or no block.
+// How many bytes and how many times a block has.
 #[derive(Clone, Copy)]
-pub enum BlockFront {
-    Sizes(usize, u32),
-    Wrong,
+pub struct BlockFront {
+    pub size: usize,
+    pub times: u32,
 }
 
-// The place after a block and its last time, or no block.
+// The place after a block and its last time.
 #[derive(Clone, Copy)]
-pub enum NextBlock {
-    At(usize, u64),
-    Wrong,
+pub struct NextBlock {
+    pub next: usize,
+    pub last: u64,
 }
 
 // Whether a block has as many times as it must: one at least, and up to B.
@@ -43,28 +43,28 @@ fn times_fit(limit: u32, times: u32) -> bool
 }
 
 // The front of a block: its sizes fit the signals, B and the bytes that are there.
-fn front_at(s: &[u8], at: usize, signals: usize, limit: u32) -> BlockFront
+fn front_at(s: &[u8], at: usize, signals: usize, limit: u32) -> Option<BlockFront>
     requires { (at ≤ length s.now) × (signals ≤ 65536) }
     ensures { result ≡ front_at signals limit s.now at }
 {
     if s.len() - at < times_place(signals) {
-        return BlockFront::Wrong;
+        return None;
     }
     let size = get_u32(s, at) as usize;
     let times = get_u32(s, at + BLOCK_TIMES);
     if get_u32(s, at + BLOCK_SIGNALS) as usize != signals {
-        return BlockFront::Wrong;
+        return None;
     }
     if size < data_start(signals, times as usize) {
-        return BlockFront::Wrong;
+        return None;
     }
     if !times_fit(limit, times) {
-        return BlockFront::Wrong;
+        return None;
     }
     if s.len() - at < size {
-        return BlockFront::Wrong;
+        return None;
     }
-    BlockFront::Sizes(size, times)
+    Some(BlockFront { size, times })
 }
 
 // Times and parts of a block of so many bytes and times.
@@ -74,39 +74,42 @@ fn body_at(
     signals: usize,
     size: usize,
     times: u32,
-    later: bool,
-    end: u64,
-) -> NextBlock
+    end: Option<u64>,
+) -> Option<NextBlock>
     requires { (at + size ≤ length s.now) × (block_size signals times 0 ≤ size) × (head_size signals ≤ length s.now) × (0 < times) × (times ≤ 65535) }
-    ensures { result ≡ body_at signals size times s.now at later end }
+    ensures { result ≡ body_at signals size times s.now at end }
 {
     let front = data_start(signals, times as usize);
-    match times_at(s, at + times_place(signals), times as usize, later, end) {
-        Times::Last(last) => {
-            if are_parts(
-                s,
-                HEAD_KINDS,
-                at + BLOCK_OFFSETS,
-                at + front,
-                size - front,
-                signals,
-                times,
-            ) {
-                return NextBlock::At(at + size, last);
-            }
-            NextBlock::Wrong
-        }
-        Times::Wrong => NextBlock::Wrong,
+    let last = times_at(s, at + times_place(signals), times as usize, end)?;
+    if are_parts(
+        s,
+        HEAD_KINDS,
+        at + BLOCK_OFFSETS,
+        at + front,
+        size - front,
+        signals,
+        times,
+    ) {
+        Some(NextBlock {
+            next: at + size,
+            last,
+        })
+    } else {
+        None
     }
 }
 
-// The block at a place; `later` says that one with the last time `end` came before.
-pub fn block_at(s: &[u8], at: usize, signals: usize, limit: u32, later: bool, end: u64) -> NextBlock
+// The block at a place, if there is one; `end` is the last time of the block before, if one came before.
+pub fn block_at(
+    s: &[u8],
+    at: usize,
+    signals: usize,
+    limit: u32,
+    end: Option<u64>,
+) -> Option<NextBlock>
     requires { (at ≤ length s.now) × (signals ≤ 65536) × (limit ≤ 65535) × (head_size signals ≤ length s.now) }
-    ensures { result ≡ next_block_at limit (kinds_at signals s.now 16) (end_of later end) s.now at }
+    ensures { result ≡ next_block_at limit (kinds_at signals s.now 16) (end_of end) s.now at }
 {
-    match front_at(s, at, signals, limit) {
-        BlockFront::Sizes(size, times) => body_at(s, at, signals, size, times, later, end),
-        BlockFront::Wrong => NextBlock::Wrong,
-    }
+    let front = front_at(s, at, signals, limit)?;
+    body_at(s, at, signals, front.size, front.times, end)
 }

@@ -15,18 +15,12 @@ use Rattle.signal.specs.declared.kind.SignalEncoding.TheVariants.{BitVector, Rea
 use Rattle.signal.specs.declared.decode.ChangeValue.{ChangeValue}
 use Rattle.signal.specs.declared.decode.ChangeValue.TheVariants as signal
 use Rattle.signal.specs.Kind.{width_of}
-use Rattle.signal.specs.Content.{bits, Given, vcd, raw, real, decode}
+use Rattle.signal.specs.Content.{Given, vcd, raw, real, decode}
+use Rattle.signal.proofs.DecodeLaws.{same-change}
 use Rattle.stream.specs.Stream.{change_bytes}
 use Rattle.stream.specs.Answer.{change_length, Says, said_bytes}
 use Rattle.stream.proofs.LengthLaws.{says-length}
 use Rattle.recording.specs.Work.{item, item_bytes}
-
--- only a real's signal hears a real
-pub real-said : (k : SignalEncoding) (d b : ℕ) (v : ChangeValue) → Says k (real b) v → said_bytes k d (real b) ≡ change_bytes Real d (bits b)
-unfolding decode
-real-said (BitVector w) d b v (t, e) = let z : ◌≡◌ {A = ℕ} 0 1 = cc in absurd (omega arith)
-real-said Real d b v s = refl
-real-said Absent d b v (t, e) = let z : ◌≡◌ {A = ℕ} 0 1 = cc in absurd (omega arith)
 
 -- a record's head and its stream bytes, written one after the other
 pub item-written : (w w₁ w₂ : List ℕ) (at g n : ℕ) (b : List ℕ) → n ≡ length b → w₁ ≡ sets w at (le 4 g ++ le 4 n) → w₂ ≡ sets w₁ (at + 8) b
@@ -48,5 +42,5 @@ unfolding decode change_bytes
 given-length k d (vcd s) v h = says-length k d (vcd s) v tt h
 given-length k d (raw c s) v h = says-length k d (raw c s) v tt h
 given-length (BitVector w) d (real b) v (t, e) = let z : ◌≡◌ {A = ℕ} 0 1 = cc in absurd (omega arith)
-given-length Real d (real b) v (t, e) = let q : signal.Real b ≡ v = cc in rw (← q, length-append (leb_of d) (le 8 b), length-le 8 b) refl
+given-length Real d (real b) v (t, e) = let q : signal.Real b ≡ v = same-change e in rw (← q, length-append (leb_of d) (le 8 b), length-le 8 b) refl
 given-length Absent d (real b) v (t, e) = let z : ◌≡◌ {A = ℕ} 0 1 = cc in absurd (omega arith)

@@ -8,220 +8,74 @@
 #![tactic(auto)]
 
 ghost use Rattle.std.specs.Prelude.{◌≡◌, ◌≤◌, ◌<◌, length};
-ghost use Rattle.signal.specs.Content.{vcd, raw, real, decode};
-ghost use Rattle.signal.specs.Answer.{decoded_as};
-ghost use Rattle.signal.specs.declared.decode.DecodedChange.TheVariants as decoded;
+ghost use Rattle.signal.specs.Content.{decode};
 ghost use Rattle.recording.specs.Calls.{reply_of};
-ghost use Rattle.change_notation.specs.Notation.{given_of};
-ghost use Rattle.change.specs.Found.{found, found_by, found_of};
+ghost use Rattle.change.specs.Found.{found, found_by, found_of, found_after};
 
 use admission::changed::{Changed, recorded, refused, skipped};
-use admission::item::{ItemStart, begin_item};
+use admission::item::begin_item;
 use admission::{Admission, admitted};
-use change_notation::Value;
+use change_notation::GivenValue;
 use recording::{Encoder, Lengths, SignalRecord, Target};
+use refusal::Refusal;
 use signal::SignalRef;
-use signal::decode::{ChangeValue, DecodedChange};
-use signal_decode::{decode_raw, decode_real, decode_vcd};
-use stream_write::{put_raw_change, put_real_change, put_vcd_change};
-use value::states::States;
 
-// A VCD value that decodes to change and states is written into the work buffer, unless 10 (second group) or 7 refuses it.
-fn record_vcd(
+// A change that is neither skipped nor refused before its value is looked at: it is written into the work buffer, unless 4, 5, 6, 10 (second
+// group) or 7 refuses it.
+fn record<V: GivenValue>(
     state: Encoder,
     kept: SignalRecord,
     signal: SignalRef,
-    value: &[u8],
-    change: ChangeValue,
-    states: States,
+    value: V,
     work: &mut [u8],
-) -> Changed
-    requires held_nonzero { (0 < state.held) × (state.held ≤ 65535) × (state.work ≤ length work.old) }
-    requires value_value { decoded_as kept.kind (decode kept.kind (vcd value.now)) ≡ decoded.Change change states }
-    ensures { found (reply_of result.answer) result.state result.kept work.new ≡ found_by state kept work.old signal.0 (decode kept.kind (vcd value.now)) }
+) -> Result<Changed, Refusal>
+    requires { (0 < state.held) × (state.held ≤ 65535) × (state.work ≤ length work.old) }
+    ensures { found_after state kept result work.new ≡ found_by state kept work.old signal.0 (decode kept.kind (V.given value)) }
 {
-    match begin_item(state, kept, signal, change, work) {
-        ItemStart::Refused(k) => refused(k, state, kept),
-        ItemStart::Length(n) => {
-            let kind = kept.kind;
-            let gap = state.held - 1 - kept.index;
-            put_vcd_change(work, state.work as usize + 8, kind, gap, value, change);
-            recorded(state, kept, 8 + n, states)
-        }
-    }
+    let decoded = value.decode_to(kept.kind)?;
+    let n = begin_item(state, kept, signal, decoded.change, work)?;
+    let gap = state.held - 1 - kept.index;
+    value.put_change(
+        work,
+        state.work as usize + 8,
+        kept.kind,
+        gap,
+        decoded.change,
+    );
+    Ok(recorded(state, kept, 8 + n, decoded.states))
 }
 
-// The same for a raw value.
-fn record_raw(
-    state: Encoder,
-    kept: SignalRecord,
-    signal: SignalRef,
-    claim: u32,
-    value: &[u8],
-    change: ChangeValue,
-    states: States,
-    work: &mut [u8],
-) -> Changed
-    requires held_nonzero { (0 < state.held) × (state.held ≤ 65535) × (state.work ≤ length work.old) }
-    requires value_value { decoded_as kept.kind (decode kept.kind (raw claim value.now)) ≡ decoded.Change change states }
-    ensures { found (reply_of result.answer) result.state result.kept work.new ≡ found_by state kept work.old signal.0 (decode kept.kind (raw claim value.now)) }
-{
-    match begin_item(state, kept, signal, change, work) {
-        ItemStart::Refused(k) => refused(k, state, kept),
-        ItemStart::Length(n) => {
-            let kind = kept.kind;
-            let gap = state.held - 1 - kept.index;
-            put_raw_change(
-                work,
-                state.work as usize + 8,
-                kind,
-                gap,
-                claim,
-                value,
-                change,
-            );
-            recorded(state, kept, 8 + n, states)
-        }
-    }
-}
-
-// The same for a real.
-fn record_real(
-    state: Encoder,
-    kept: SignalRecord,
-    signal: SignalRef,
-    bits: u64,
-    change: ChangeValue,
-    states: States,
-    work: &mut [u8],
-) -> Changed
-    requires held_nonzero { (0 < state.held) × (state.held ≤ 65535) × (state.work ≤ length work.old) }
-    requires bits_value { decoded_as kept.kind (decode kept.kind (real bits)) ≡ decoded.Change change states }
-    ensures { found (reply_of result.answer) result.state result.kept work.new ≡ found_by state kept work.old signal.0 (decode kept.kind (real bits)) }
-{
-    match begin_item(state, kept, signal, change, work) {
-        ItemStart::Refused(k) => refused(k, state, kept),
-        ItemStart::Length(n) => {
-            let gap = state.held - 1 - kept.index;
-            put_real_change(work, state.work as usize + 8, gap, bits);
-            recorded(state, kept, 8 + n, states)
-        }
-    }
-}
-
-// A VCD value of a signal whose record is kept: 2, 18 of the sender, 10 (first group), 3, the sender's skip, 4, 18 of the record, 5, 6, 10
-// (second group), 7, in this order.
-pub fn vcd_change(
+// A change, or why it is refused: 2, 18 of the sender, 10 (first group), 3, the sender's skip, 4, 18 of the record, 5, 6, 10 (second group),
+// 7, in this order.
+fn judged<V: GivenValue>(
     state: Encoder,
     kept: SignalRecord,
     lent: Lengths,
     target: Target,
-    value: &[u8],
+    value: V,
     work: &mut [u8],
-) -> Changed
-    ensures { found (reply_of result.answer) result.state result.kept work.new ≡ found_of state kept lent.records lent.times lent.image work.old target.sender target.signal.0 (vcd value.now) }
+) -> Result<Changed, Refusal>
+    ensures { found_after state kept result work.new ≡ found_of state kept lent.records lent.times lent.image work.old target.sender target.signal.0 (V.given value) }
 {
-    match admitted(state, kept, lent, work.len(), target) {
-        Admission::Refused(n) => {
-            return refused(n, state, kept);
-        }
-        Admission::Skipped => {
-            return skipped(state, kept, target.sender);
-        }
-        Admission::Taken => {}
-    }
-    let kind = kept.kind;
-    match decode_vcd(kind, value) {
-        DecodedChange::Change(change, states) => {
-            record_vcd(state, kept, target.signal, value, change, states, work)
-        }
-        DecodedChange::Refused(k) => refused(k, state, kept),
+    match admitted(state, kept, lent, work.len(), target)? {
+        Admission::Skipped => Ok(skipped(state, kept, target.sender)),
+        Admission::Taken => record(state, kept, target.signal, value, work),
     }
 }
 
-// The same for a raw value.
-pub fn raw_change(
+// A change of a signal whose record is kept, in any notation. A refused one changes nothing.
+pub fn value_change<V: GivenValue>(
     state: Encoder,
     kept: SignalRecord,
     lent: Lengths,
     target: Target,
-    claim: u32,
-    value: &[u8],
+    value: V,
     work: &mut [u8],
 ) -> Changed
-    ensures { found (reply_of result.answer) result.state result.kept work.new ≡ found_of state kept lent.records lent.times lent.image work.old target.sender target.signal.0 (raw claim value.now) }
+    ensures { found (reply_of result.answer) result.state result.kept work.new ≡ found_of state kept lent.records lent.times lent.image work.old target.sender target.signal.0 (V.given value) }
 {
-    match admitted(state, kept, lent, work.len(), target) {
-        Admission::Refused(n) => {
-            return refused(n, state, kept);
-        }
-        Admission::Skipped => {
-            return skipped(state, kept, target.sender);
-        }
-        Admission::Taken => {}
-    }
-    let kind = kept.kind;
-    match decode_raw(kind, claim, value) {
-        DecodedChange::Change(change, states) => {
-            record_raw(
-                state,
-                kept,
-                target.signal,
-                claim,
-                value,
-                change,
-                states,
-                work,
-            )
-        }
-        DecodedChange::Refused(k) => refused(k, state, kept),
-    }
-}
-
-// The same for a real.
-pub fn real_change(
-    state: Encoder,
-    kept: SignalRecord,
-    lent: Lengths,
-    target: Target,
-    bits: u64,
-    work: &mut [u8],
-) -> Changed
-    ensures { found (reply_of result.answer) result.state result.kept work.new ≡ found_of state kept lent.records lent.times lent.image work.old target.sender target.signal.0 (real bits) }
-{
-    match admitted(state, kept, lent, work.len(), target) {
-        Admission::Refused(n) => {
-            return refused(n, state, kept);
-        }
-        Admission::Skipped => {
-            return skipped(state, kept, target.sender);
-        }
-        Admission::Taken => {}
-    }
-    let kind = kept.kind;
-    match decode_real(kind, bits) {
-        DecodedChange::Change(change, states) => {
-            record_real(state, kept, target.signal, bits, change, states, work)
-        }
-        DecodedChange::Refused(k) => refused(k, state, kept),
-    }
-}
-
-// A change in any notation.
-pub fn change_found(
-    state: Encoder,
-    kept: SignalRecord,
-    lent: Lengths,
-    target: Target,
-    value: Value,
-    bytes: &[u8],
-    work: &mut [u8],
-) -> Changed
-    ensures { found (reply_of result.answer) result.state result.kept work.new ≡ found_of state kept lent.records lent.times lent.image work.old target.sender target.signal.0 (given_of value bytes.now) }
-{
-    match value {
-        Value::Vcd => vcd_change(state, kept, lent, target, bytes, work),
-        Value::Raw(claim) => raw_change(state, kept, lent, target, claim, bytes, work),
-        Value::Real(bits) => real_change(state, kept, lent, target, bits, work),
+    match judged(state, kept, lent, target, value, work) {
+        Ok(changed) => changed,
+        Err(refusal) => refused(refusal, state, kept),
     }
 }

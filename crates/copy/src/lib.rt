@@ -9,10 +9,9 @@ pub fn put_part(out: &mut [u8], at: usize, src: &[u8], from: usize, count: usize
     requires { (at + count ≤ length out.old) × (from + count ≤ length src.now) }
     ensures { (result ≡ at + count) × (out.new ≡ sets out.old at (take count (drop from src.now))) }
 {
-    let mut i = 0;
-    while i < count {
+    // not copy_from_slice: that becomes a call of memmove, which the C interface does not ask of its users
+    for i in 0..count {
         out[at + i] = src[from + i];
-        i += 1;
     }
     at + count
 }
@@ -22,10 +21,6 @@ pub fn put_same(out: &mut [u8], at: usize, byte: u8, count: usize) -> usize
     requires { at + count ≤ length out.old }
     ensures { (result ≡ at + count) × (out.new ≡ sets out.old at (replicate count byte)) }
 {
-    let mut i = 0;
-    while i < count {
-        out[at + i] = byte;
-        i += 1;
-    }
+    out[at..at + count].fill(byte);
     at + count
 }

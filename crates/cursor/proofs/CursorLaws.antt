@@ -13,7 +13,6 @@ use lib.Seq.{sets}
 use Rattle.lists.specs.Bytes.{Bytes}
 use Rattle.value.specs.declared.real.Entry as declared
 use Rattle.signal.specs.declared.kind.SignalEncoding.{SignalEncoding}
-use Rattle.signal.specs.declared.decode.ChangeValue.{ChangeValue}
 use Rattle.signal.specs.Kind.{width_of, absent}
 use Rattle.signal.specs.Content.{Content, symbols_of}
 use Rattle.stream.specs.Entries.{Entry}
@@ -25,7 +24,8 @@ use Rattle.loaded.proofs.CursorLaws.{cursor-known}
 use Rattle.entry.specs.Read.{content_read}
 use Rattle.walk.specs.Walk.{Opened, image_in}
 use Rattle.walk.proofs.HeadLaws.{means, kind-past}
-use Rattle.entry_same.specs.declared.kept.KeptChange.TheVariants as kept
+use Rattle.entry.specs.declared.read.PlacedChange.{PlacedChange}
+use Rattle.std.specs.Prelude as std
 use Rattle.cursor_point.specs.declared.Pointing.{Pointing}
 use Rattle.entry_same.specs.Kept.{kept_content}
 use Rattle.cursor_point.specs.Point.{Point, unpointed, blocks_passed, point_as}
@@ -90,23 +90,23 @@ module _ (b : List ℕ) (g t : ℕ) (out : List ℕ) (k : SignalEncoding) (a : B
     held : point_as k b s ≡ pointing (loads g (image_in b).blocks).times (entry_at (loads g (image_in b).blocks) t)
     held = p ∙ points-loads (image_in b).limit (image_in b).kinds t g (image_in b).blocks (means b y o).valid.blocks
 
-    pub cursor-nothing : s.last ≡ kept.Nothing → cursor_after nothing out ≡ cursor_in (image_in b) g t out
+    pub cursor-nothing : s.last ≡ std.None → cursor_after nothing out ≡ cursor_in (image_in b) g t out
     cursor-nothing z =
         none-held (loads g (image_in b).blocks).times (entry_at (loads g (image_in b).blocks) t) out (sym (ap (λ (x : Point). x.content) held) ∙ ap (kept_content k b) z)
         ∙ sym (cursor-fits w h q l)
 
     -- the change that was kept last
-    module _ (v : ChangeValue) (n : ℕ) (z : s.last ≡ kept.Change v n) where
-      content-held : (pointing (loads g (image_in b).blocks).times (entry_at (loads g (image_in b).blocks) t)).content ≡ some (content_read k b v n)
+    module _ (v : PlacedChange) (z : s.last ≡ std.Some v) where
+      content-held : (pointing (loads g (image_in b).blocks).times (entry_at (loads g (image_in b).blocks) t)).content ≡ some (content_read k b v.value v.next)
       content-held = sym (ap (λ (x : Point). x.content) held) ∙ ap (kept_content k b) z
 
       pub cursor-counted : 1 ≤ s.count
       cursor-counted =
-          omega (arith, ap (λ (x : Point). x.count) held, one-counted (loads g (image_in b).blocks).times (entry_at (loads g (image_in b).blocks) t) (content_read k b v n) content-held)
+          omega (arith, ap (λ (x : Point). x.count) held, one-counted (loads g (image_in b).blocks).times (entry_at (loads g (image_in b).blocks) t) (content_read k b v.value v.next) content-held)
 
-      pub cursor-found : (r : declared.Entry) (new : List ℕ) → Shows r out new (content_read k b v n)
+      pub cursor-found : (r : declared.Entry) (new : List ℕ) → Shows r out new (content_read k b v.value v.next)
           → cursor_after (found (s.count - 1) s.time (entry_reply r)) new ≡ cursor_in (image_in b) g t out
       cursor-found r new d =
-          rw (d.0, d.2) (one-held (loads g (image_in b).blocks).times (entry_at (loads g (image_in b).blocks) t) out s.count s.time (content_read k b v n)
+          rw (d.0, d.2) (one-held (loads g (image_in b).blocks).times (entry_at (loads g (image_in b).blocks) t) out s.count s.time (content_read k b v.value v.next)
           (sym (ap (λ (x : Point). x.count) held)) (sym (ap (λ (x : Point). x.time) held)) content-held)
           ∙ sym (cursor-fits w h q l)

@@ -7,34 +7,37 @@ pub mod shown;
 
 ghost use Rattle.std.specs.Prelude.{◌≡◌};
 ghost use Rattle.loaded.specs.Reader.{cursor_reply, cursor_after, cursor_in};
-ghost use Rattle.walk.specs.Walk.{Opened, image_in};
+ghost use Rattle.walk.specs.Open.{image_of};
 
 use crate::shown::value_at;
 use cursor_point::point_at;
-use entry_same::kept::KeptChange;
-use loaded::CursorAnswer;
-use walk::head::kind_at;
+use loaded::Found;
+use refusal::Refusal;
+use walk::open::OpenImage;
 
 // The last entry of a signal with time at or before t, if there is one. 4 by the signal, 9 by the width even where there is none.
-pub fn cursor_in(image: &[u8], signal: u32, t: u64, out: &mut [u8]) -> CursorAnswer
-    requires { Opened image.now }
-    ensures { cursor_after (cursor_reply result) out.new ≡ cursor_in (image_in image.now) signal t out.old }
+pub fn cursor_in(
+    image: OpenImage,
+    signal: u32,
+    t: u64,
+    out: &mut [u8],
+) -> Result<Option<Found>, Refusal>
+    ensures { cursor_after (cursor_reply result) out.new ≡ cursor_in (image_of image.entry) signal t out.old }
 {
-    let kind = kind_at(image, signal);
+    let kind = image.kind_at(signal);
     if kind.is_absent() {
-        return CursorAnswer::Refused(4);
+        return Err(Refusal::NoSignal);
     }
     if out.len() < kind.width() as usize {
-        return CursorAnswer::Refused(9);
+        return Err(Refusal::OutputShort);
     }
     let held = point_at(image, kind, signal, t);
-    let last = held.last;
-    match last {
-        KeptChange::Nothing => CursorAnswer::Nothing,
-        KeptChange::Change(value, next) => {
-            let number = held.count - 1;
-            let entry = value_at(image, kind, value, next, out);
-            CursorAnswer::Found(number, held.time, entry)
-        }
+    match held.last {
+        None => Ok(None),
+        Some(change) => Ok(Some(Found {
+            number: held.count - 1,
+            time: held.time,
+            entry: value_at(image.bytes, kind, change, out),
+        })),
     }
 }

@@ -6,10 +6,9 @@ ghost use Rattle.signal.specs.Content.{symbols};
 ghost use Rattle.entry.specs.Read.{wide_read, content_read, Reads, PackedThere};
 ghost use Rattle.cursor.specs.Shown.{Shows};
 
-use entry::read::{bit_in, bits_in, states_in};
+use entry::read::PlacedChange;
 use entry_answer::{event_entry, symbols_entry};
 use packed_symbols::{bytes_required, unpack};
-use signal::decode::ChangeValue;
 use signal::kind::SignalEncoding;
 use value::real::{Entry, real_entry};
 use value::states::States;
@@ -33,16 +32,10 @@ fn wide_entry(image: &[u8], width: u32, states: States, next: usize, out: &mut [
     symbols_entry(states)
 }
 
-// The content of the change that ends at next: its own class; a vector's symbols go to the start of out.
-pub fn value_at(
-    image: &[u8],
-    kind: SignalEncoding,
-    value: ChangeValue,
-    next: usize,
-    out: &mut [u8],
-) -> Entry
-    requires { Reads kind image.now value next × (width_of kind ≤ length out.old) }
-    ensures { Shows result out.old out.new (content_read kind image.now value next) }
+// The content of a change: its own class; a vector's symbols go to the start of out.
+pub fn value_at(image: &[u8], kind: SignalEncoding, change: PlacedChange, out: &mut [u8]) -> Entry
+    requires { Reads kind image.now change.value change.next × (width_of kind ≤ length out.old) }
+    ensures { Shows result out.old out.new (content_read kind image.now change.value change.next) }
 {
     match kind {
         SignalEncoding::BitVector(width) => {
@@ -50,11 +43,11 @@ pub fn value_at(
                 return event_entry();
             }
             if width == 1 {
-                return bit_entry(bit_in(value), out);
+                return bit_entry(change.bit(), out);
             }
-            wide_entry(image, width, states_in(value), next, out)
+            wide_entry(image, width, change.states(), change.next, out)
         }
-        SignalEncoding::Real => real_entry(bits_in(value)),
+        SignalEncoding::Real => real_entry(change.bits()),
         SignalEncoding::Absent => event_entry(),
     }
 }

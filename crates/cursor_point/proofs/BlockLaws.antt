@@ -1,10 +1,9 @@
 -- The loop over a signal's stream in a block of an accepted image: what holds at a place of it, at the begin, after a turn, at the end.
 -- Assumes nothing.
-use Prim.Native.Nat.{ℕ, zero, suc, ◌+◌, ◌-◌, ◌≤◌, ◌<◌, ◌^◌}
+use Prim.Native.Nat.{ℕ, suc, ◌+◌, ◌-◌, ◌≤◌, ◌<◌, ◌^◌}
 use mathlib.Core.Path.{◌≡◌, refl, sym, ap, ◌∙◌, subst}
 use mathlib.Core.List.{List, [], ◌∷◌, ◌++◌}
 use native.Mathlib.Omega.{arith}
-use native.Mathlib.Decide.{dec_lt}
 use lib.ListN.{length, get_or, drop, length-append, length-drop, take-append-drop}
 use lib.Seq.{drop-drop, drop-cons, drop-length}
 use Rattle.lists.specs.Bytes.{Bytes}
@@ -13,49 +12,24 @@ use Rattle.signal.specs.declared.decode.ChangeValue.{ChangeValue}
 use Rattle.signal.specs.Content.{Content}
 use Rattle.stream.specs.Entries.{Entry, stream_bytes}
 use Rattle.stream.specs.Stream.{change_bytes, max_delta}
-use Rattle.stream.specs.Answer.{change_at}
-use Rattle.stream.specs.declared.read.ReadChange.TheVariants as read
+use Rattle.stream.specs.Answer.{change_at, read_of}
+use Rattle.std.specs.Prelude as std
 use Rattle.image.specs.Block.{Block, block}
 use Rattle.image.specs.Head.{image_limit}
-use Rattle.image.specs.Image.{Image, streamed}
-use Rattle.image.proofs.SizeLaws.{block_size_lem}
 use Rattle.codec.specs.Valid.{Rising, EntriesFit}
 use Rattle.codec.proofs.StreamLaws.{change-long}
 use Rattle.loaded.specs.Opener.{kind_at, block_at, part_at}
 use Rattle.loaded.specs.Loading.{entries_in}
 use Rattle.entry.specs.Read.{content_read, Reads}
-use Rattle.walk.specs.Walk.{Opened, image_in, block_place, BlockHere, TimeHere, PartHere}
+use Rattle.walk.specs.Walk.{Opened, image_in, block_place, BlockHere, PartHere}
 use Rattle.walk.proofs.HeadLaws.{means, head_in}
-use Rattle.walk.proofs.BlockLaws.{fits_in, here, next_place, next-size}
+use Rattle.walk.proofs.BlockLaws.{fits_in, here, next-size}
 use Rattle.walk_part.proofs.PartLaws.{stream-entries}
 use Rattle.cursor_point.specs.declared.Pointing.{Pointing}
 use Rattle.cursor_point.specs.Point.{Point, kept, passed, all_passed, blocks_passed, point_as, PointReads}
 use Rattle.cursor_point.proofs.PointLaws.{InOrder, none_passed, passed-count, passed-kept}
 use Rattle.cursor_point.proofs.LoadLaws.{in_order, part-fits, parts-short}
 use Rattle.cursor_point.proofs.StreamLaws.{Standing, Read, read_first, never-bad}
-
--- ---- a block is known by its place
-
-places-rise : (x : Image) (n d : ℕ) → suc (n + d) ≤ length x.blocks → block_place x n < block_place x (suc (n + d))
-places-rise x n zero h =
-    let z : n + 0 ≡ n = omega arith in
-    rw z (omega (arith, next_place x n (omega arith), block_size_lem (streamed x.kinds (block_at x n))))
-places-rise x n (suc d) h =
-    let z : n + suc d ≡ suc (n + d) = omega arith in
-    rw z (omega (arith, next_place x (suc (n + d)) (omega arith), block_size_lem (streamed x.kinds (block_at x (suc (n + d)))), places-rise x n d (omega arith)))
-
-later-place : (x : Image) (n m : ℕ) → n < m → m < length x.blocks → block_place x n < block_place x m
-later-place x n m h k =
-    let z : suc (n + (m - suc n)) ≡ m = omega arith in
-    subst (λ (i : ℕ). block_place x n < block_place x i) z (places-rise x n (m - suc n) (omega arith))
-
-pub same_block : (n m at : ℕ) (b : List ℕ) → BlockHere n at b → BlockHere m at b → n ≡ m
-same_block n m at b h k = by (dec_lt n m) (dec_lt m n)
-  where
-    by : Dec (n < m) → Dec (m < n) → n ≡ m
-    by (yes p) q = absurd (omega (arith, later-place (image_in b) n m p k.exists, h.place, k.place))
-    by (no p) (yes q) = absurd (omega (arith, later-place (image_in b) m n q h.exists, h.place, k.place))
-    by (no p) (no q) = omega (arith, p, q)
 
 -- ---- what is known of a block's parts
 
@@ -76,8 +50,7 @@ next-most n at b y o h = omega (arith, next-size (image_in b) n h.exists, h.plac
 
 -- ---- a place of the stream
 
-pub record Passing (k : SignalEncoding) (b : List ℕ) (g at to t : ℕ) (start held : Pointing) (p i : ℕ) : Type 0 where
-  pub number : ℕ
+pub record Passing (k : SignalEncoding) (b : List ℕ) (number g at to t : ℕ) (start held : Pointing) (p i : ℕ) : Type 0 where
   pub standing : BlockHere number at b
   pub left : List Entry
   pub stands : Standing k b (length (block_at (image_in b) number).times) p to i left
@@ -88,7 +61,7 @@ pub record Passing (k : SignalEncoding) (b : List ℕ) (g at to t : ℕ) (start 
       ≡ all_passed (block_at (image_in b) number).times t (point_as k b start) (entries_in (part_at (block_at (image_in b) number) g))
 
 pub passing_begins : (n : ℕ) (k : SignalEncoding) (b : List ℕ) (g at from to top t : ℕ) (start : Pointing) → Bytes b → Opened b → BlockHere n at b → k ≡ kind_at (image_in b) g
-    → PartHere from to top n g b → PointReads k b start → start.count ≤ at → Passing k b g at to t start start from 0
+    → PartHere from to top n g b → PointReads k b start → start.count ≤ at → Passing k b n g at to t start start from 0
 passing_begins n k b g at from to top t start y o h e f r c =
     let x = image_in b in
     let q = fits_in n b y o h.exists in
@@ -100,7 +73,6 @@ passing_begins n k b g at from to top t start y o h e f r c =
     ∙ ap (λ (l : List ℕ). l ++ drop (to - from) (drop from b)) (f.stream ∙ stream-entries (kind_at x g) (part_at (block_at x n) g))
     ∙ ap (λ (l : List ℕ). stream_bytes (kind_at x g) 0 es ++ l) (drop-drop (to - from) from b ∙ ap (λ (m : ℕ). drop m b) z) in
     record {
-      number = n;
       standing = h;
       left = es;
       stands = record { top = w.0; ordered = f.ordered; inside = f.inside; bytes = rw e s; fits = rw e w.1 };
@@ -115,8 +87,8 @@ Passed k b g at t start held m =
     point_as k b held ≡ all_passed (block_at (image_in b) m).times t (point_as k b start) (entries_in (part_at (block_at (image_in b) m) g))
 
 -- what a turn needs, and what it leaves
-pub record Turn (k : SignalEncoding) (b : List ℕ) (g at to t : ℕ) (start held : Pointing) (p i d : ℕ) (v : ChangeValue) (next : ℕ) : Type 0 where
-  pub time : TimeHere at (i + d) b
+pub record Turn (k : SignalEncoding) (b : List ℕ) (number g at to t : ℕ) (start held : Pointing) (p i d : ℕ) (v : ChangeValue) (next : ℕ) : Type 0 where
+  pub time : i + d < length (block_at (image_in b) number).times
   pub small : i + d < 65536
   pub count : held.count + 1 < 2 ^ 32
   pub reads : Reads k b v next
@@ -124,22 +96,21 @@ pub record Turn (k : SignalEncoding) (b : List ℕ) (g at to t : ℕ) (start hel
   pub most : next ≤ to
   -- a time at or before t: the change is kept
   pub again :
-      (r : Pointing) (u : ℕ) → ((m : ℕ) → BlockHere m at b → u ≡ get_or (block_at (image_in b) m).times (i + d) 0) → u ≤ t → PointReads k b r
-      → point_as k b r ≡ kept (point_as k b held) u (content_read k b v next) → Passing k b g at to t start r next (i + d)
+      (r : Pointing) (u : ℕ) → u ≡ get_or (block_at (image_in b) number).times (i + d) 0 → u ≤ t → PointReads k b r
+      → point_as k b r ≡ kept (point_as k b held) u (content_read k b v next) → Passing k b number g at to t start r next (i + d)
   -- a time after t: nothing more is
-  pub stops : (u m : ℕ) → BlockHere m at b → u ≡ get_or (block_at (image_in b) m).times (i + d) 0 → t < u → Passed k b g at t start held m
+  pub stops : (u : ℕ) → u ≡ get_or (block_at (image_in b) number).times (i + d) 0 → t < u → Passed k b g at t start held number
 
-module _ (k : SignalEncoding) (b : List ℕ) (g at to t : ℕ) (start held : Pointing) (p i : ℕ) (y : Bytes b) (o : Opened b) (w : Passing k b g at to t start held p i) where
-  pub passing-turn : (d : ℕ) (v : ChangeValue) (next : ℕ) → p < to → change_at k b p ≡ read.Change d v next → Turn k b g at to t start held p i d v next
+module _ (k : SignalEncoding) (b : List ℕ) (n g at to t : ℕ) (start held : Pointing) (p i : ℕ) (y : Bytes b) (o : Opened b) (w : Passing k b n g at to t start held p i) where
+  pub passing-turn : (d : ℕ) (v : ChangeValue) (next : ℕ) → p < to → change_at k b p ≡ read_of d v next → Turn k b n g at to t start held p i d v next
   passing-turn d v next h e =
-      let n : ℕ = w.number in
       let ts : List ℕ = (block_at (image_in b) n).times in
       let small = times-most n at b y o w.standing in
       let q : Read k b (length ts) p to i d v next w.left = read_first k b (length ts) p to i y small h d v next w.left w.stands e in
       let long : length w.left ≡ suc (length q.rest) = ap length q.all in
       let rising = (fits_in n b y o w.standing.exists).rising in
       record {
-        time = (n, w.standing, q.below);
+        time = q.below;
         small = omega (arith, q.below);
         count = omega (arith, w.room);
         reads = q.reads;
@@ -150,10 +121,9 @@ module _ (k : SignalEncoding) (b : List ℕ) (g at to t : ℕ) (start held : Poi
             let j : point_as k b r ≡ passed t (point_as k b held) u c = m ∙ passed-kept t (point_as k b held) u c l in
             let s : passed t (point_as k b held) (get_or ts q.first.index 0) q.first.content ≡ point_as k b r =
             ap (λ (j : ℕ). passed t (point_as k b held) (get_or ts j 0) q.first.content) (sym q.index)
-            ∙ ap (λ (j : ℕ). passed t (point_as k b held) j q.first.content) (sym (f n w.standing))
+            ∙ ap (λ (j : ℕ). passed t (point_as k b held) j q.first.content) (sym f)
             ∙ ap (passed t (point_as k b held) u) q.content ∙ sym j in
             record {
-              number = n;
               standing = w.standing;
               left = q.rest;
               stands = q.after;
@@ -161,12 +131,10 @@ module _ (k : SignalEncoding) (b : List ℕ) (g at to t : ℕ) (start held : Poi
               room = omega (arith, w.room, passed-count t (point_as k b held) u c, ap (λ (a : Point). a.count) j);
               same = step ts q.first q.rest (point_as k b r) s ∙ sym (ap (all_passed ts t (point_as k b held)) q.all) ∙ w.same;
             };
-        stops = λ u m f e l.
-            let same = same_block n m at b w.standing f in
-            subst (Passed k b g at t start held) same
-            (none_passed ts t (get_or ts q.first.index 0) (point_as k b held) w.left
-            (omega (arith, e, ap (λ (j : ℕ). get_or (block_at (image_in b) j).times (i + d) 0) same, ap (λ (j : ℕ). get_or ts j 0) q.index))
-            (from_first ts w.left q.first q.rest rising w.stands q.all) ∙ w.same);
+        stops = λ u e l.
+            none_passed ts t (get_or ts q.first.index 0) (point_as k b held) w.left
+            (omega (arith, e, ap (λ (j : ℕ). get_or ts j 0) q.index))
+            (from_first ts w.left q.first q.rest rising w.stands q.all) ∙ w.same;
       }
     where
       step : (ts : List ℕ) (e : Entry) (es : List Entry) (s : Point) → passed t (point_as k b held) (get_or ts e.index 0) e.content ≡ s
@@ -178,11 +146,11 @@ module _ (k : SignalEncoding) (b : List ℕ) (g at to t : ℕ) (start held : Poi
           let f : EntriesFit k (length ts) i s.top (e ∷ es) = subst (EntriesFit k (length ts) i s.top) q s.fits in
           rw q (omega arith, in_order k ts e.index s.top es r f.1 f.0.inside)
 
-  pub passing-bad : p < to → change_at k b p ≡ read.Bad → ⊥
+  pub passing-bad : p < to → change_at k b p ≡ std.None → ⊥
   passing-bad h e =
-      never-bad k b (length (block_at (image_in b) w.number).times) p to i y (times-most w.number at b y o w.standing) h w.left w.stands e
+      never-bad k b (length (block_at (image_in b) n).times) p to i y (times-most n at b y o w.standing) h w.left w.stands e
 
-  none_left : (es : List Entry) → Standing k b (length (block_at (image_in b) w.number).times) p to i es → to ≤ p → es ≡ []
+  none_left : (es : List Entry) → Standing k b (length (block_at (image_in b) n).times) p to i es → to ≤ p → es ≡ []
   unfolding stream_bytes
   none_left [] s h = refl
   none_left (e ∷ es) s h =
@@ -198,11 +166,10 @@ module _ (k : SignalEncoding) (b : List ℕ) (g at to t : ℕ) (start held : Poi
         length-append (change_bytes k (e.index - i) e.content) (stream_bytes k e.index es),
       ))
 
-  pub passing-ends : (m : ℕ) → to ≤ p → BlockHere m at b → Passed k b g at t start held m
-  passing-ends m h f =
-      let ts : List ℕ = (block_at (image_in b) w.number).times in
-      subst (Passed k b g at t start held) (same_block w.number m at b w.standing f)
-      (at-end ts ∙ sym (ap (all_passed ts t (point_as k b held)) (none_left w.left w.stands h)) ∙ w.same)
+  pub passing-ends : to ≤ p → Passed k b g at t start held n
+  passing-ends h =
+      let ts : List ℕ = (block_at (image_in b) n).times in
+      at-end ts ∙ sym (ap (all_passed ts t (point_as k b held)) (none_left w.left w.stands h)) ∙ w.same
     where
       at-end : (ts : List ℕ) → point_as k b held ≡ all_passed ts t (point_as k b held) []
       at-end ts = unfold all_passed in refl

@@ -12,8 +12,8 @@ use Rattle.signal.specs.declared.decode.ChangeValue.{ChangeValue}
 use Rattle.signal.specs.Content.{Content}
 use Rattle.stream.specs.Entries.{Entry, stream_bytes}
 use Rattle.stream.specs.Stream.{Change, change, change_bytes, read_change, max_delta}
-use Rattle.stream.specs.Answer.{change_at, read_as}
-use Rattle.stream.specs.declared.read.ReadChange.TheVariants as read
+use Rattle.stream.specs.Answer.{change_at, read_as, read_of}
+use Rattle.std.specs.Prelude as std
 use Rattle.stream.proofs.StreamTrip.{read-written}
 use Rattle.codec.specs.Valid.{EntriesFit}
 use Rattle.codec.proofs.StreamLaws.{change-long}
@@ -67,7 +67,7 @@ module _ (k : SignalEncoding) (b : List ℕ) (n p to i : ℕ) (y : Bytes b) (sma
       ap (read_change k) (s.bytes ∙ append_assoc (change_bytes k (e.index - i) e.content) (stream_bytes k e.index es) (drop to b))
       ∙ read-written k (e.index - i) e.content (stream_bytes k e.index es ++ drop to b) (omega (arith, s.fits.0.inside)) s.fits.0.content
 
-  pub never-bad : (es : List Entry) → Standing k b n p to i es → change_at k b p ≡ read.Bad → ⊥
+  pub never-bad : (es : List Entry) → Standing k b n p to i es → change_at k b p ≡ std.None → ⊥
   never-bad [] s e = some_left [] s refl
   never-bad (a ∷ es) s e =
       let f : read_as k (length b) (read_change k (drop p b)) ≡ read_as k (length b) (got (change (a.index - i) a.content) (stream_bytes k a.index es ++ drop to b)) = ap
@@ -75,7 +75,7 @@ module _ (k : SignalEncoding) (b : List ℕ) (n p to i : ℕ) (y : Bytes b) (sma
       let z : ◌≡◌ {A = ℕ} 0 1 = cc in
       absurd (omega arith)
 
-  pub read_first : (d : ℕ) (v : ChangeValue) (next : ℕ) (es : List Entry) → Standing k b n p to i es → change_at k b p ≡ read.Change d v next
+  pub read_first : (d : ℕ) (v : ChangeValue) (next : ℕ) (es : List Entry) → Standing k b n p to i es → change_at k b p ≡ read_of d v next
       → Read k b n p to i d v next es
   unfolding stream_bytes
   read_first d v next [] s e = absurd (some_left [] s refl)

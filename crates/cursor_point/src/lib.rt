@@ -3,20 +3,18 @@
 // proofs/PointLaws and proofs/LoadLaws.
 #![tactic(auto)]
 
-ghost use Rattle.std.specs.Prelude.{◌≡◌, ℕ, ◌+◌, ◌≤◌, ◌<◌, ◌^◌};
-ghost use Rattle.loaded.specs.Opener.{kind_at, block_at, part_at};
+ghost use Rattle.std.specs.Prelude.{◌≡◌, ◌+◌, ◌≤◌, ◌<◌, ◌^◌};
+ghost use Rattle.loaded.specs.Opener.{kind_at, part_at};
 ghost use Rattle.loaded.specs.Loading.{entries_in};
 ghost use Rattle.entry.specs.Read.{content_read, Reads};
-ghost use Rattle.walk.specs.Walk.{Opened, image_in, BlockHere, SomeBlock};
+ghost use Rattle.walk.specs.Open.{image_of, block_of};
 ghost use Rattle.cursor_point.specs.Point.{unpointed, kept, all_passed, blocks_passed, point_as, PointReads};
 
-use entry_same::kept::{KeptChange, repeats_last};
-use signal::decode::ChangeValue;
+use entry::read::PlacedChange;
+use entry_same::kept::repeats_last;
 use signal::kind::SignalEncoding;
-use stream::read::ReadChange;
 use stream_known::known_change;
-use walk::block::{first_block, next_block, time_at};
-use walk::head::block_count;
+use walk::open::{Block, OpenImage};
 use walk_part::part_in;
 
 // How many entries are kept so far; the time of the last of them, and its change or the newest that repeats it.
@@ -24,92 +22,88 @@ use walk_part::part_in;
 pub struct Pointing {
     pub count: u32,
     pub time: u64,
-    pub last: KeptChange,
+    pub last: Option<PlacedChange>,
 }
 
 // One change more. A repeat adds no entry; it is held all the same, as its content is that of the last, so that the loop has less to choose.
 fn keep_change(
     image: &[u8],
     kind: SignalEncoding,
-    value: ChangeValue,
-    next: usize,
+    change: PlacedChange,
     time: u64,
     state: Pointing,
 ) -> Pointing
-    requires { PointReads kind image.now state × Reads kind image.now value next × (state.count + 1 < 2 ^ 32) }
-    ensures { PointReads kind image.now result × (point_as kind image.now result ≡ kept (point_as kind image.now state) time (content_read kind image.now value next)) }
+    requires { PointReads kind image.now state × Reads kind image.now change.value change.next × (state.count + 1 < 2 ^ 32) }
+    ensures { PointReads kind image.now result × (point_as kind image.now result ≡ kept (point_as kind image.now state) time (content_read kind image.now change.value change.next)) }
 {
-    let before = state.last;
-    let last = KeptChange::Change(value, next);
-    if repeats_last(image, kind, before, value, next) {
-        return Pointing {
-            count: state.count,
-            time: state.time,
-            last,
-        };
+    let last = Some(change);
+    if repeats_last(image, kind, state.last, change) {
+        return Pointing { last, ..state };
     }
-    let count = state.count + 1;
-    Pointing { count, time, last }
+    Pointing {
+        count: state.count + 1,
+        time,
+        last,
+    }
 }
 
-// A signal's changes up to t in the block that begins at a place. Their times do not fall, so the first one after t ends the pass.
-fn pass_block(
-    image: &[u8],
-    kind: SignalEncoding,
-    at: usize,
-    signal: u32,
-    t: u64,
-    state: Pointing,
-) -> Pointing
-    requires { Opened image.now × SomeBlock at image.now × (kind ≡ kind_at (image_in image.now) signal) × PointReads kind image.now state × (state.count ≤ at) }
-    ensures { PointReads kind image.now result × ((n : ℕ) → BlockHere n at image.now → point_as kind image.now result ≡ all_passed (block_at (image_in image.now) n).times t (point_as kind image.now state) (entries_in (part_at (block_at (image_in image.now) n) signal))) }
+// A signal's changes up to t in a block. Their times do not fall, so the first one after t ends the pass.
+fn pass_block(block: Block, kind: SignalEncoding, signal: u32, t: u64, state: Pointing) -> Pointing
+    requires { (kind ≡ kind_at (image_of block.image) signal) × PointReads kind block.image.bytes.now state × (state.count ≤ block.at) }
+    ensures reads { PointReads kind block.entry.image.bytes.now result }
+    ensures passed { point_as kind block.entry.image.bytes.now result ≡ all_passed (block_of block.entry).times t (point_as kind block.entry.image.bytes.now state) (entries_in (part_at (block_of block.entry) signal)) }
 {
-    let part = part_in(image, at, signal);
+    let image = block.image.bytes;
+    let part = part_in(block, signal);
     let to = part.to;
     let mut p = part.from;
     let mut i: u32 = 0;
     let mut held = state;
+    // each change says where the next one begins
     while p < to {
         match known_change(image, p, kind) {
-            ReadChange::Change(d, value, next) => {
-                i = i + d;
-                let time = time_at(image, at, i);
+            Some(read) => {
+                i += read.delta;
+                let time = block.time(i);
                 if t < time {
                     return held;
                 }
-                held = keep_change(image, kind, value, next, time, held);
-                p = next;
+                let change = PlacedChange {
+                    value: read.value,
+                    next: read.next,
+                };
+                held = keep_change(image, kind, change, time, held);
+                p = read.next;
             }
             // an accepted image has no such stream
-            ReadChange::Bad => {
-                return held;
-            }
+            None => return held,
         }
     }
     held
 }
 
 // All of a signal's changes up to t. The first block that begins after t ends the pass.
-pub fn point_at(image: &[u8], kind: SignalEncoding, signal: u32, t: u64) -> Pointing
-    requires { Opened image.now × (kind ≡ kind_at (image_in image.now) signal) }
-    ensures { PointReads kind image.now result × (point_as kind image.now result ≡ blocks_passed t signal unpointed (image_in image.now).blocks) }
+pub fn point_at(image: OpenImage, kind: SignalEncoding, signal: u32, t: u64) -> Pointing
+    requires { kind ≡ kind_at (image_of image) signal }
+    ensures { PointReads kind image.entry.bytes.now result × (point_as kind image.entry.bytes.now result ≡ blocks_passed t signal unpointed (image_of image.entry).blocks) }
 {
-    let blocks = block_count(image);
-    let last = KeptChange::Nothing;
     let mut held = Pointing {
         count: 0,
         time: 0,
-        last,
+        last: None,
     };
-    let mut at = first_block(image);
-    let mut k: u32 = 0;
-    while k < blocks {
-        if t < time_at(image, at, 0) {
+    let mut at = image.first_block();
+    for k in 0..image.block_count() {
+        let block = Block {
+            image,
+            number: k,
+            at,
+        };
+        if t < block.time(0) {
             return held;
         }
-        held = pass_block(image, kind, at, signal, t, held);
-        at = next_block(image, at);
-        k += 1;
+        held = pass_block(block, kind, signal, t, held);
+        at = block.end();
     }
     held
 }

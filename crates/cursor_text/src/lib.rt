@@ -16,6 +16,9 @@ use crate::signals::put_signals;
 use ascii::write::put_text;
 use opener::open;
 
+// How many bytes an image has at most; a longer input is refused.
+const MOST_READ: usize = 16384;
+
 // The text of an accepted image. No vector of it is wider than the array.
 fn image_text(image: &[u8], t: u64, out: &mut [u8]) -> usize
     requires { Taken image.now × Room (at_lines (image_in image.now) t 0 (image_in image.now).kinds) 0 out.old }
@@ -30,10 +33,7 @@ pub fn at_text(image: &[u8], t: u64, out: &mut [u8]) -> usize
     requires { at_limit ≤ length out.old }
     ensures { Puts (at_of image.now t) 0 out.old result out.new }
 {
-    if 16384 < image.len() {
-        return put_text(out, 0, b"refused 11\n");
-    }
-    if !open(image) {
+    if MOST_READ < image.len() || !open(image) {
         return put_text(out, 0, b"refused 11\n");
     }
     image_text(image, t, out)

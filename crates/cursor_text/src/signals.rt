@@ -14,38 +14,34 @@ use ascii::write::put_text;
 use cursor::cursor_in;
 use listing_text::entries::put_shown;
 use listing_text::lines::put_named;
-use loaded::CursorAnswer;
-use value::real::Entry;
-use walk::head::{kind_at, signal_count};
+use loaded::Found;
+use refusal::Refusal;
+use walk::open::OpenImage;
 
 // An entry's number, time and content.
-fn put_found(
-    out: &mut [u8],
-    at: usize,
-    number: u32,
-    time: u64,
-    shown: Entry,
-    symbols: &[u8],
-) -> usize
-    requires { (all_symbols symbols.now ≡ true) × Room (answer_words (found number time (entry_reply shown)) symbols.now) at out.old }
-    ensures { Puts (answer_words (found number time (entry_reply shown)) symbols.now) at out.old result out.new }
+fn put_found(out: &mut [u8], at: usize, shown: Found, symbols: &[u8]) -> usize
+    requires { (all_symbols symbols.now ≡ true) × Room (answer_words (found shown.number shown.time (entry_reply shown.entry)) symbols.now) at out.old }
+    ensures { Puts (answer_words (found shown.number shown.time (entry_reply shown.entry)) symbols.now) at out.old result out.new }
 {
-    let p = put_named(out, at, b"entry ", number as u64);
-    let q = put_named(out, p, b" time ", time);
-    put_shown(out, q, shown, symbols)
+    let p = put_named(out, at, b"entry ", shown.number as u64);
+    let q = put_named(out, p, b" time ", shown.time);
+    put_shown(out, q, shown.entry, symbols)
 }
 
 // What the cursor answered. Only an absent signal is refused: the buffer has room for the symbols of any vector.
-fn put_answer(out: &mut [u8], at: usize, answer: CursorAnswer, symbols: &[u8]) -> usize
+fn put_answer(
+    out: &mut [u8],
+    at: usize,
+    answer: Result<Option<Found>, Refusal>,
+    symbols: &[u8],
+) -> usize
     requires { AnswerFine (cursor_reply answer) symbols.now × Room (answer_words (cursor_reply answer) symbols.now) at out.old }
     ensures { Puts (answer_words (cursor_reply answer) symbols.now) at out.old result out.new }
 {
     match answer {
-        CursorAnswer::Found(number, time, shown) => {
-            put_found(out, at, number, time, shown, symbols)
-        }
-        CursorAnswer::Nothing => put_text(out, at, b"none"),
-        CursorAnswer::Refused(_) => put_text(out, at, b"absent"),
+        Ok(Some(shown)) => put_found(out, at, shown, symbols),
+        Ok(None) => put_text(out, at, b"none"),
+        Err(_) => put_text(out, at, b"absent"),
     }
 }
 
@@ -61,9 +57,10 @@ fn put_signal(
     requires { Taken image.now × (signal < length (image_in image.now).kinds) × (65536 ≤ length symbols.old) × Room (at_line signal (kind_at (image_in image.now) signal) (loads signal (image_in image.now).blocks) t) at out.old }
     ensures { Puts (at_line signal (kind_at (image_in image.now) signal) (loads signal (image_in image.now).blocks) t) at out.old result out.new }
 {
-    let kind = kind_at(image, signal);
+    let opened = OpenImage { bytes: image };
+    let kind = opened.kind_at(signal);
     let width = kind.width() as usize;
-    let answer = cursor_in(image, signal, t, symbols);
+    let answer = cursor_in(opened, signal, t, symbols);
     let p = put_named(out, at, b"signal ", signal as u64);
     let q = put_text(out, p, b" ");
     let r = put_answer(out, q, answer, &symbols[..width]);
@@ -75,12 +72,10 @@ pub fn put_signals(image: &[u8], t: u64, out: &mut [u8], symbols: &mut [u8]) -> 
     requires { Taken image.now × (65536 ≤ length symbols.old) × Room (at_lines (image_in image.now) t 0 (image_in image.now).kinds) 0 out.old }
     ensures { Puts (at_lines (image_in image.now) t 0 (image_in image.now).kinds) 0 out.old result out.new }
 {
-    let signals = signal_count(image);
     let mut p = 0;
-    let mut g: u32 = 0;
-    while g < signals {
+    let opened = OpenImage { bytes: image };
+    for g in 0..opened.signal_count() {
         p = put_signal(image, g, t, out, p, symbols);
-        g += 1;
     }
     p
 }

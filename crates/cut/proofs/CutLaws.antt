@@ -5,10 +5,11 @@ use mathlib.Core.Path.{◌≡◌, refl, sym, ap, ◌∙◌}
 use mathlib.Core.Bool.{Bool, true, false}
 use mathlib.Core.List.{List, ◌++◌}
 use mathlib.Core.Option.{Option, some, none}
+use Rattle.std.specs.Prelude as code
 use native.Mathlib.Nat.{add-zero}
 use native.Mathlib.Omega.{arith}
 use borrow.Author.Tests.{lt-ltb, le-ltb, ltb-false}
-use borrow.Rule.Slice.PartMut.{put_mid, mid_of}
+use borrow.Rule.Slice.PartMut.{put_mid}
 use lib.ListN.{length, take, drop, length-drop}
 use lib.Seq.{sets, length-sets, length-take-le}
 use lib.Dec.{ltb}
@@ -17,49 +18,30 @@ use Rattle.lists.proofs.SetsLaws.{sets-append, sets-part}
 use Rattle.numbers.specs.LittleEndian.{le}
 use Rattle.numbers.proofs.LittleEndianLaws.{length-le}
 use Rattle.image.specs.Block.{les, block_bytes, block_size}
+use Rattle.refusal.specs.declared.Refusal.{Refusal}
+use Rattle.refusal.specs.declared.Refusal.TheVariants.{Altered, ImageFull}
+use Rattle.refusal.specs.Refusal.{refusal_number}
 use Rattle.recording.specs.declared.Encoder.{Encoder}
 use Rattle.recording.specs.declared.SignalRecord.{SignalRecord}
 use Rattle.recording.specs.Work.{Item, items_of, items_in}
 use Rattle.recording.specs.Memory.{Memory, memory}
 use Rattle.recording.specs.Step.{noCut, cuts, cut_block, cut_items, cut_of, cut_in}
 use Rattle.work.specs.Measure.{data_length, measured}
-use Rattle.work.specs.declared.Measured.{Measured}
-use Rattle.work.specs.declared.Measured.TheVariants.{Data, Damaged}
 use Rattle.refusals.proofs.StateLaws.{Sound}
-use Rattle.block.specs.Given.{Divides, tops_of, fronted, opened, Opens, Closes}
+use Rattle.block.specs.Given.{Divides, tops_of, fronted, opened}
 use Rattle.block.specs.Passes.{clear, begin}
 use Rattle.block.proofs.BlockLaws.{written}
 use Rattle.block.proofs.Passes.{Writes}
 use Rattle.block.proofs.PassLaws.{length-clear, length-count}
 use Rattle.block.proofs.SizeLaws.{length-block}
-use Rattle.cut.specs.Cut.{cut_size, size_of, sized, used_items, data_start, cut_closed, CutOpens, CutCloses}
+use Rattle.cut.specs.Cut.{size_of, sized, used_items, data_start, cut_closed, CutOpens, CutCloses}
 use Rattle.cut.specs.Turns.{cut_turns, TurnsFit}
 use Rattle.cut.proofs.TurnLaws.{tail-back, tail-lent, front_same, tail-same, length-parts, turns-length, turns-all, turns_fit}
 
 pub used-length : (n : ℕ) (w : List ℕ) → n ≤ length w → n ≡ length (take n w)
 used-length n w h = sym (length-take-le n w h)
 
--- ---- what the steps ask of the part of the image that is lent to the block writer, and N and total over it
-
-module _ (s : Encoder) (i : List ℕ) (room : s.image + data_start s ≤ length i) where
-  abbrev lent : List ℕ
-  lent = mid_of s.image (length i - s.image) i
-
-  lent_is : lent ≡ drop s.image i
-  lent_is = tail-lent s.image i (omega arith)
-
-  lent_length : data_start s ≤ length lent
-  lent_length = rw (lent_is, length-drop s.image i) (omega arith)
-
-  pub open-asked : (size : ℕ) (t w : List ℕ) → CutOpens s size t w i
-      → ((data_start s ≤ length lent) × (s.held ≤ length t) × Divides s.signals (take s.work w))
-      × Opens size s.held s.signals (take s.held t) (used_items s w) lent
-  open-asked size t w f = ((lent_length, f.held, f.divides), rw lent_is f.opens)
-
-  pub close-asked : (w : List ℕ) → Divides s.signals w → Closes (data_start s) s.signals (items_in s.signals w) (drop s.image i)
-      → ((12 + 4 * s.signals ≤ data_start s) × (data_start s ≤ length lent) × Divides s.signals w)
-      × Closes (data_start s) s.signals (items_in s.signals w) lent
-  close-asked w e f = ((omega arith, lent_length, e), rw lent_is f)
+-- ---- N and total over the image
 
 pub head-put : (x y z : List ℕ) (b n : ℕ) → y ≡ sets x 8 (le 4 b) → z ≡ sets y 12 (le 4 n) → z ≡ sets x 8 (le 4 b ++ le 4 n)
 head-put x y z b n e f = f ∙ rw (e, sets-append (le 4 b) (le 4 n) x 8, length-le 4 b) refl
@@ -74,43 +56,42 @@ module _ (s : Encoder) (w : List ℕ) (image : ℕ) (h : s.work ≤ length w) wh
   unfolding sized
   sized-at = rw (← (used-length s.work w h)) refl
 
-  pub size-damaged : {x : Measured} → x ≡ measured s.signals (items_of (length u) s.signals u) → x ≡ Damaged → cut_size 10 0 ≡ sized s w image
-  size-damaged e f = by (items_of (length u) s.signals u) refl (sym f ∙ e)
+  pub size-damaged : code.None ≡ measured s.signals (items_of (length u) s.signals u) → code.Err Altered ≡ sized s w image
+  size-damaged e = by (items_of (length u) s.signals u) refl e
     where
-      by : (o : Option (List Item)) → items_of (length u) s.signals u ≡ o → Damaged ≡ measured s.signals o → cut_size 10 0 ≡ sized s w image
+      by : (o : Option (List Item)) → items_of (length u) s.signals u ≡ o → code.None ≡ measured s.signals o → code.Err Altered ≡ sized s w image
       by none q r = sym (sized-at ∙ rw q refl)
       by (some is) q r = let z : ◌≡◌ {A = ℕ} 0 1 = cc in absurd (omega arith)
 
-  size-data : {x : Measured} (n : ℕ) → x ≡ measured s.signals (items_of (length u) s.signals u) → x ≡ Data n
-      → sized s w image ≡ pick (ltb (image - s.image) (data_start s + n)) (cut_size 8 0) (cut_size 0 (data_start s + n))
-  size-data n e f = by (items_of (length u) s.signals u) refl (sym f ∙ e)
-    where
-      by : (o : Option (List Item)) → items_of (length u) s.signals u ≡ o → Data n ≡ measured s.signals o
-          → sized s w image ≡ pick (ltb (image - s.image) (data_start s + n)) (cut_size 8 0) (cut_size 0 (data_start s + n))
-      by none q r = let z : ◌≡◌ {A = ℕ} 0 1 = cc in absurd (omega arith)
-      by (some is) q r = let k : n ≡ data_length 0 s.signals is = cc in sized-at ∙ rw (q, k) refl
+  module _ (n : ℕ) (e : code.Some n ≡ measured s.signals (items_of (length u) s.signals u)) where
+    size-data : sized s w image ≡ pick (ltb (image - s.image) (data_start s + n)) (code.Err ImageFull) (code.Ok (data_start s + n))
+    size-data = by (items_of (length u) s.signals u) refl e
+      where
+        by : (o : Option (List Item)) → items_of (length u) s.signals u ≡ o → code.Some n ≡ measured s.signals o
+            → sized s w image ≡ pick (ltb (image - s.image) (data_start s + n)) (code.Err ImageFull) (code.Ok (data_start s + n))
+        by none q r = let z : ◌≡◌ {A = ℕ} 0 1 = cc in absurd (omega arith)
+        by (some is) q r = let k : n ≡ data_length 0 s.signals is = cc in sized-at ∙ rw (q, k) refl
 
-  module _ {x : Measured} (n : ℕ) (e : x ≡ measured s.signals (items_of (length u) s.signals u)) (f : x ≡ Data n) where
-    pub size-full : image - s.image < data_start s + n → cut_size 8 0 ≡ sized s w image
-    size-full l = sym (size-data n e f ∙ rw (lt-ltb (image - s.image) (data_start s + n) l) refl)
+    pub size-full : image - s.image < data_start s + n → code.Err ImageFull ≡ sized s w image
+    size-full l = sym (size-data ∙ rw (lt-ltb (image - s.image) (data_start s + n) l) refl)
 
-    pub size_fits : data_start s + n ≤ image - s.image → cut_size 0 (data_start s + n) ≡ sized s w image
-    size_fits l = sym (size-data n e f ∙ rw (le-ltb (image - s.image) (data_start s + n) l) refl)
+    pub size_fits : data_start s + n ≤ image - s.image → code.Ok (data_start s + n) ≡ sized s w image
+    size_fits l = sym (size-data ∙ rw (le-ltb (image - s.image) (data_start s + n) l) refl)
 
 -- a block that can be cut has room
-pub size_room : (s : Encoder) (w : List ℕ) (image : ℕ) → (sized s w image).size ≤ image - s.image
+pub size_room : (s : Encoder) (w : List ℕ) (image n : ℕ) → code.Ok n ≡ sized s w image → n ≤ image - s.image
 unfolding sized
-size_room s w image = by (items_of s.work s.signals (take s.work w))
+size_room s w image n = by (items_of s.work s.signals (take s.work w))
   where
-    by-room : (n : ℕ) (b : Bool) → ltb (image - s.image) n ≡ b → (pick b (cut_size 8 0) (cut_size 0 n)).size ≤ image - s.image
-    by-room n true e = omega arith
-    by-room n false e = ltb-false _ _ e
+    by-room : (k : ℕ) (b : Bool) → ltb (image - s.image) k ≡ b → code.Ok n ≡ pick b (code.Err ImageFull) (code.Ok k) → n ≤ image - s.image
+    by-room k true e q = let z : ◌≡◌ {A = ℕ} 0 1 = cc in absurd (omega arith)
+    by-room k false e q = let same : n ≡ k = cc in omega (arith, ltb-false _ _ e, same)
 
-    by : (o : Option (List Item)) → (size_of s image o).size ≤ image - s.image
-    by none = omega arith
-    by (some is) =
-        let n : ℕ = block_size s.signals s.held (data_length 0 s.signals is) in
-        by-room n (ltb (image - s.image) n) refl
+    by : (o : Option (List Item)) → code.Ok n ≡ size_of s image o → n ≤ image - s.image
+    by none q = let z : ◌≡◌ {A = ℕ} 0 1 = cc in absurd (omega arith)
+    by (some is) q =
+        let k : ℕ = block_size s.signals s.held (data_length 0 s.signals is) in
+        by-room k (ltb (image - s.image) k) refl q
 
 -- ---- what the size says of a cut
 
@@ -133,8 +114,8 @@ module _ (s : Encoder) (rs : List SignalRecord) (t w i : List ℕ) (h : Sound s 
     pub cut : cut_of m ≡ cuts made
 
   pub data Sizes : Type 0 where
-    refuses : (n : ℕ) → (n ≡ 0 → ⊥) → sized s w (length i) ≡ cut_size n 0 → cut_of m ≡ noCut n → Sizes
-    fits : (n : ℕ) → sized s w (length i) ≡ cut_size 0 n → Cuttable n → Sizes
+    refuses : (r : Refusal) → sized s w (length i) ≡ code.Err r → cut_of m ≡ noCut (refusal_number r) → Sizes
+    fits : (n : ℕ) → sized s w (length i) ≡ code.Ok n → Cuttable n → Sizes
 
   made-length : (is : List Item) → length (block_bytes (cut_block m is)) ≡ block_size s.signals s.held (data_length 0 s.signals is)
   made-length is =
@@ -155,7 +136,7 @@ module _ (s : Encoder) (rs : List SignalRecord) (t w i : List ℕ) (h : Sound s 
       by-room : (is : List Item) → items_of (length used) s.signals used ≡ some is → (b : Bool)
           → ltb (length i - s.image) (block_size s.signals s.held (data_length 0 s.signals is)) ≡ b → Sizes
       by-room is q true r =
-          refuses 8 (λ z. omega arith) (size-at ∙ rw (q, r) refl) (cut_at ∙ rw (q, made-length is, r) refl)
+          refuses ImageFull (size-at ∙ rw (q, r) refl) (cut_at ∙ rw (q, made-length is, r) refl)
       by-room is q false r =
           let n : ℕ = block_size s.signals s.held (data_length 0 s.signals is) in
           let here : items_in s.signals used ≡ is = rw q refl in
@@ -169,7 +150,7 @@ module _ (s : Encoder) (rs : List SignalRecord) (t w i : List ℕ) (h : Sound s 
           })
 
       by : (o : Option (List Item)) → items_of (length used) s.signals used ≡ o → Sizes
-      by none q = refuses 10 (λ z. omega arith) (size-at ∙ rw q refl) (cut_at ∙ rw q refl)
+      by none q = refuses Altered (size-at ∙ rw q refl) (cut_at ∙ rw q refl)
       by (some is) q = by-room is q (ltb (length i - s.image) (block_size s.signals s.held (data_length 0 s.signals is))) refl
 
   -- ---- the steps of the cut

@@ -2,7 +2,7 @@
 -- used bytes.
 -- Assumes nothing.
 use Prim.Native.Nat.{ℕ, zero, suc, ◌+◌, ◌-◌, ◌*◌, ◌≤◌, ◌<◌}
-use mathlib.Core.Path.{◌≡◌, refl, sym, ap, ap₂, ◌∙◌}
+use mathlib.Core.Path.{◌≡◌, refl, sym, ap, ◌∙◌}
 use mathlib.Core.List.{List, [], ◌∷◌, ◌++◌, map, append-nil}
 use native.Mathlib.Numerals.{add-one}
 use native.Mathlib.Omega.{arith}
@@ -18,7 +18,7 @@ use Rattle.block.specs.Given.{tops_of}
 use Rattle.block.specs.Passes.{begun, next_part, begin, Begins}
 use Rattle.block.proofs.PassLaws.{begin-none, begins-here, begin-turn, begins-turn, length-begun}
 use Rattle.cut.specs.Cut.{in_tail}
-use Rattle.cut.specs.Turns.{first_by, Place, placed, turned, cut_turns, TurnFits, TurnsFit}
+use Rattle.cut.specs.Turns.{first_by, Place, placed, turned, cut_turns, TurnsFit}
 
 -- ---- the part of the image that follows the used bytes
 
@@ -30,10 +30,6 @@ tail-back u i x h =
 
 pub tail-lent : (u : ℕ) (i : List ℕ) → u ≤ length i → mid_of u (length i - u) i ≡ drop u i
 tail-lent u i h = take_all (length i - u) (drop u i) (rw length-drop (omega arith))
-
-pub tail-done : (u : ℕ) (f : List ℕ → List ℕ) (i x : List ℕ) → u ≤ length i → x ≡ f (mid_of u (length i - u) i)
-    → put_mid u (length i - u) i x ≡ in_tail u f i
-tail-done u f i x h e = tail-back u i x h ∙ ap (λ (y : List ℕ). take u i ++ y) (e ∙ ap f (tail-lent u i h))
 
 module _ (u : ℕ) (i x : List ℕ) (h : u ≤ length i) where
   pub front_same : take u (take u i ++ x) ≡ take u i
@@ -79,20 +75,6 @@ module _ (f : SignalRecord → SignalRecord) where
 
   pub first_next : (i : ℕ) (rs : List SignalRecord) (e : SignalRecord) → i < length rs → set (first_by f i rs) i (f (get_or rs i e)) ≡ first_by f (i + 1) rs
   first_next i rs e h = rw (add-one i) (next-first i rs e h)
-
--- ---- one turn, in the part of the image that is lent
-
-module _ (u d o g : ℕ) (i : List ℕ) (f : TurnFits u d o g i) where
-  abbrev lent : List ℕ
-  lent = mid_of u (length i - u) i
-
-  pub turn-asked : (12 + 4 * g + 4 ≤ d) × (d + next_part o g lent ≤ length lent) × (next_part o g lent < 4294967296)
-  turn-asked = rw (tail-lent u i f.lent) (f.slot, f.room, f.small)
-
-  pub turn-made : (r : SignalRecord) (n : ℕ) (x : List ℕ) → n ≡ next_part o g lent → x ≡ begun d o g (class_number r.top) lent
-      → placed n (put_mid u (length i - u) i x) ≡ turned u d g r (placed o i)
-  turn-made r n x p e =
-      ap₂ placed (p ∙ ap (next_part o g) (tail-lent u i f.lent)) (tail-done u (begun d o g (class_number r.top)) i x f.lent e)
 
 -- ---- turns
 

@@ -1,30 +1,27 @@
 -- A cut in the image: the size of its block before the first byte is written, and the block's passes in the part of the image that follows
 -- the used bytes.
 -- Assumes nothing.
-use Rattle.std.specs.Prelude.{ℕ, ◌+◌, ◌-◌, ◌≤◌, ◌<◌, List, ◌++◌, length, take, drop, get_or, set, ltb}
+use Rattle.std.specs.Prelude.{Result, Ok, Err, ℕ, ◌+◌, ◌-◌, ◌≤◌, ◌<◌, List, ◌++◌, length, take, drop, get_or, set, ltb}
 use Rattle.std.proofs.Math.Option.{Option, some, none}
 use Rattle.std.proofs.lemmas.List.Edits.{sets}
 use Rattle.lists.specs.Choice.{pick}
 use Rattle.numbers.specs.LittleEndian.{le}
 use Rattle.image.specs.Block.{block_size, front_size}
+use Rattle.refusal.specs.declared.Refusal.{Refusal}
+use Rattle.refusal.specs.declared.Refusal.TheVariants.{Altered, ImageFull}
 use Rattle.recording.specs.declared.Encoder.{Encoder}
 use Rattle.recording.specs.Work.{Item, items_of, items_in}
 use Rattle.work.specs.Measure.{data_length}
 use Rattle.block.specs.Given.{Divides, opened, closed, Opens, Closes}
-use Rattle.cut.specs.declared.CutSize.{CutSize}
 
--- a refusal's number and 0, or 0 and the bytes of the block to cut
-abbrev pub cut_size : (refusal size : ℕ) → CutSize
-cut_size r n = record { refusal = r; size = n }
-
--- `image` is how many bytes the image has
-abbrev pub size_of : Encoder → (image : ℕ) → Option (List Item) → CutSize
-size_of s image none = cut_size 10 0
+-- the bytes of the block to cut, or why it cannot be cut; `image` is how many bytes the image has
+abbrev pub size_of : Encoder → (image : ℕ) → Option (List Item) → Result ℕ Refusal
+size_of s image none = Err Altered
 size_of s image (some is) =
     let n = block_size s.signals s.held (data_length 0 s.signals is) in
-    pick (ltb (image - s.image) n) (cut_size 8 0) (cut_size 0 n)
+    pick (ltb (image - s.image) n) (Err ImageFull) (Ok n)
 
-unfoldable pub sized : Encoder → (work : List ℕ) → (image : ℕ) → CutSize
+unfoldable pub sized : Encoder → (work : List ℕ) → (image : ℕ) → Result ℕ Refusal
 sized s w image = size_of s image (items_of s.work s.signals (take s.work w))
 
 -- ---- the image

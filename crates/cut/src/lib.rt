@@ -16,60 +16,38 @@ use block::pass::begin_part;
 use image::layout::{HEAD_BLOCKS, HEAD_TOTAL, data_start};
 use numbers::little_endian::put_u32;
 use recording::{Encoder, SignalRecord};
-use work::{Measured, measure};
-
-// A refusal's number, 0 where the block can be cut, and the bytes that it takes.
-#[derive(Clone, Copy)]
-pub struct CutSize {
-    pub refusal: u32,
-    pub size: u32,
-}
+use refusal::Refusal;
+use work::measure;
 
 // The state after a cut of a block of size bytes.
 pub fn cut_state(state: Encoder, size: u32) -> Encoder
     requires { (state.image + size < 4294967296) × (state.blocks + 1 < 4294967296) }
     ensures { result ≡ with_cut state size }
 {
-    let mut after = state;
-    after.held = 1;
-    after.work = 0;
-    after.image = state.image + size;
-    after.blocks = state.blocks + 1;
-    after
+    Encoder {
+        held: 1,
+        work: 0,
+        image: state.image + size,
+        blocks: state.blocks + 1,
+        ..state
+    }
 }
 
-// 10: the work does not divide into records of numbers below S. 8: the block exceeds the unused bytes of an image of so many; it is
-// compared in 64 bits, as S and the work may have been altered.
-pub fn cut_size(state: Encoder, work: &[u8], image: usize) -> CutSize
+// How many bytes the block takes. 10: the work does not divide into records of numbers below S. 8: the block exceeds the unused bytes of an
+// image of so many; it is compared in 64 bits, as S and the work may have been altered.
+pub fn cut_size(state: Encoder, work: &[u8], image: usize) -> Result<u32, Refusal>
     requires { (state.work ≤ length work.now) × (state.image ≤ image) × (image ≤ 1073741824) }
     ensures { result ≡ sized state work.now image }
 {
-    match measure(&work[..state.work as usize], state.signals) {
-        Measured::Data(n) => {
-            let fixed = data_start(state.signals as usize, state.held as usize) as u64;
-            let free = (image - state.image as usize) as u64;
-            if free < fixed {
-                return CutSize {
-                    refusal: 8,
-                    size: 0,
-                };
-            }
-            if free - fixed < n {
-                return CutSize {
-                    refusal: 8,
-                    size: 0,
-                };
-            }
-            CutSize {
-                refusal: 0,
-                size: (fixed + n) as u32,
-            }
-        }
-        Measured::Damaged => CutSize {
-            refusal: 10,
-            size: 0,
-        },
+    let Some(bytes) = measure(&work[..state.work as usize], state.signals) else {
+        return Err(Refusal::Altered);
+    };
+    let fixed = data_start(state.signals as usize, state.held as usize) as u64;
+    let free = (image - state.image as usize) as u64;
+    if free < fixed || free - fixed < bytes {
+        return Err(Refusal::ImageFull);
     }
+    Ok((fixed + bytes) as u32)
 }
 
 // Opens the block of the used work, of size bytes, in the unused part of the image.
@@ -101,8 +79,7 @@ pub fn begin_record(
     requires { TurnFits used d o g image.old }
     ensures { placed result image.new ≡ turned used d g «record» (placed o image.old) }
 {
-    let top = record.top;
-    begin_part(&mut image[used..], d, o, g, top)
+    begin_part(&mut image[used..], d, o, g, record.top)
 }
 
 // Closes the block of some work in the unused part of the image.

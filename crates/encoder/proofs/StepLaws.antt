@@ -1,7 +1,7 @@
 -- A start, a time and a finish: their steps together.
 -- Assumes nothing.
 use Prim.Native.Nat.{ℕ}
-use mathlib.Core.Path.{◌≡◌, refl, sym, ap, subst, ◌∙◌}
+use mathlib.Core.Path.{◌≡◌, refl, ap, ◌∙◌}
 use mathlib.Core.Bool.{Bool}
 use mathlib.Core.List.{List, []}
 use lib.ListN.{length}
@@ -20,27 +20,10 @@ use Rattle.plan.specs.Carry.{opened_by, turned_by, closed_by, times_by, carried,
 use Rattle.plan.specs.declared.Begun.{Begun}
 use Rattle.plan.specs.Begin.{begin_of, begin_in, start_carried}
 
--- what the loop asks, of the image that was opened
-pub fits_in : (u d n : ℕ) (rs : List SignalRecord) {i j : List ℕ} → j ≡ i → TurnsFit u d n rs i → TurnsFit u d n rs j
-fits_in u d n rs e f = subst (TurnsFit u d n rs) (sym e) f
-
--- what the last step asks, of the image after the loop
-pub ends-in : (p : Plan) (t w : List ℕ) (rs : List SignalRecord) {i j l : List ℕ} → j ≡ i → l ≡ turned_by p rs j → Completes p t w (turned_by p rs i) → Completes p t w l
-ends-in p t w rs e f c = rw (f, e) c
-
-pub carried-out : (p : Plan) (s : Encoder) (rs rs' : List SignalRecord) (t t' w i j k l : List ℕ)
+carried-out : (p : Plan) (s : Encoder) (rs rs' : List SignalRecord) (t t' w i j k l : List ℕ)
     → j ≡ opened_by p t w i → rs' ≡ first_by rewound p.turns rs → k ≡ turned_by p rs j → t' ≡ times_by p t → l ≡ closed_by p w k
     → after (reply_of p.outcome.answer) (memory p.outcome.state rs' t' w l) ≡ carried p (memory s rs t w i)
 carried-out p s rs rs' t t' w i j k l a b c d e = rw (b, d, e, c, a) refl
-
-pub started-out : (settings : Settings) (s : Encoder) (rs rs' : List SignalRecord) (t i j l : List ℕ)
-    → j ≡ begin_in settings (any_bad rs) (length rs) (length t) i
-    → rs' ≡ first_by fresh (begin_of s settings (any_bad rs) (length rs) (length t) (length i)).turns rs
-    → l ≡ kinds_put (begin_of s settings (any_bad rs) (length rs) (length t) (length i)).turns rs j
-    → after (reply_of (begin_of s settings (any_bad rs) (length rs) (length t) (length i)).outcome.answer)
-    (memory (begin_of s settings (any_bad rs) (length rs) (length t) (length i)).outcome.state rs' t [] l)
-    ≡ start_carried settings (memory s rs t [] i)
-started-out settings s rs rs' t i j l a b c = rw (b, c, a) refl
 
 -- ---- the steps of a time and of a finish, by the plan p that a call answered, which is q
 

@@ -1,28 +1,26 @@
-// The change calls: a VCD, a raw and a real value.
-ghost use Rattle.std.specs.Prelude.{◌≡◌};
+// The change calls: a value in any notation, and a VCD, a raw and a real value.
+ghost use Rattle.std.specs.Prelude.{◌≡◌, map};
 ghost use Rattle.signal.specs.Content.{vcd, raw, real};
 ghost use Rattle.recording.specs.Memory.{memory, left};
 ghost use Rattle.recording.specs.Step.{change_of};
-ghost use Rattle.change_notation.specs.Notation.{given_of};
 
-use change::change_found;
-use change_notation::Value;
-use recording::{Encoder, Lengths, Outcome, SignalRecord, Target};
+use change_notation::{GivenValue, RawBytes, RealBits, VcdBytes};
+use recording::{Encoder, Lengths, Outcome, Target};
 use records::{find_record, put_record};
+use storage::StoredRecord;
 
 // A change in any notation: the signal's record is read, decided on, and stored.
-pub fn value_change<'r, 't, 'w, 'i, 'b>(
+pub fn value_change<T: StoredRecord, V: GivenValue>(
     state: Encoder,
-    records: &'r mut [SignalRecord],
-    times: &'t [u64],
-    work: &'w mut [u8],
-    image: &'i [u8],
+    records: &mut [T],
+    times: &[u64],
+    work: &mut [u8],
+    image: &[u8],
     target: Target,
-    value: Value,
-    bytes: &'b [u8],
+    value: V,
 ) -> Outcome
-    ensures { left result records.new times.now work.new image.now
-        ≡ change_of (memory state records.old times.now work.old image.now) target.sender target.signal.0 (given_of value bytes.now) }
+    ensures { left result (map T.stands_for records.new) times.now work.new image.now
+        ≡ change_of (memory state (map T.stands_for records.old) times.now work.old image.now) target.sender target.signal.0 (V.given value) }
 {
     let lent = Lengths {
         records: records.len(),
@@ -30,7 +28,7 @@ pub fn value_change<'r, 't, 'w, 'i, 'b>(
         image: image.len(),
     };
     let kept = find_record(&*records, target.signal);
-    let changed = change_found(state, kept, lent, target, value, bytes, work);
+    let changed = change::value_change(state, kept, lent, target, value, work);
     put_record(records, target.signal, changed.kept);
     Outcome {
         answer: changed.answer,
@@ -39,77 +37,56 @@ pub fn value_change<'r, 't, 'w, 'i, 'b>(
 }
 
 // A VCD value of a signal.
-pub fn vcd_value_change<'r, 't, 'w, 'i, 'b>(
+pub fn vcd_value_change<T: StoredRecord>(
     state: Encoder,
-    records: &'r mut [SignalRecord],
-    times: &'t [u64],
-    work: &'w mut [u8],
-    image: &'i [u8],
+    records: &mut [T],
+    times: &[u64],
+    work: &mut [u8],
+    image: &[u8],
     target: Target,
-    value: &'b [u8],
+    value: &[u8],
 ) -> Outcome
-    ensures { left result records.new times.now work.new image.now
-        ≡ change_of (memory state records.old times.now work.old image.now) target.sender target.signal.0 (vcd value.now) }
+    ensures { left result (map T.stands_for records.new) times.now work.new image.now
+        ≡ change_of (memory state (map T.stands_for records.old) times.now work.old image.now) target.sender target.signal.0 (vcd value.now) }
 {
-    value_change(
-        state,
-        records,
-        times,
-        work,
-        image,
-        target,
-        Value::Vcd,
-        value,
-    )
+    let given = VcdBytes(value);
+    value_change(state, records, times, work, image, target, given)
 }
 
 // A raw value of a signal, by the number of the class that it claims.
-pub fn raw_claim_change<'r, 't, 'w, 'i, 'b>(
+pub fn raw_claim_change<T: StoredRecord>(
     state: Encoder,
-    records: &'r mut [SignalRecord],
-    times: &'t [u64],
-    work: &'w mut [u8],
-    image: &'i [u8],
+    records: &mut [T],
+    times: &[u64],
+    work: &mut [u8],
+    image: &[u8],
     target: Target,
     claim: u32,
-    value: &'b [u8],
+    value: &[u8],
 ) -> Outcome
-    ensures { left result records.new times.now work.new image.now
-        ≡ change_of (memory state records.old times.now work.old image.now) target.sender target.signal.0 (raw claim value.now) }
+    ensures { left result (map T.stands_for records.new) times.now work.new image.now
+        ≡ change_of (memory state (map T.stands_for records.old) times.now work.old image.now) target.sender target.signal.0 (raw claim value.now) }
 {
-    value_change(
-        state,
-        records,
-        times,
-        work,
-        image,
-        target,
-        Value::Raw(claim),
-        value,
-    )
+    let given = RawBytes {
+        claim,
+        bytes: value,
+    };
+    value_change(state, records, times, work, image, target, given)
 }
 
 // A real of a signal, by the 64 bits of its f64, so that every pattern is kept.
-pub fn real_change<'r, 't, 'w, 'i>(
+pub fn real_change<T: StoredRecord>(
     state: Encoder,
-    records: &'r mut [SignalRecord],
-    times: &'t [u64],
-    work: &'w mut [u8],
-    image: &'i [u8],
+    records: &mut [T],
+    times: &[u64],
+    work: &mut [u8],
+    image: &[u8],
     target: Target,
     bits: u64,
 ) -> Outcome
-    ensures { left result records.new times.now work.new image.now
-        ≡ change_of (memory state records.old times.now work.old image.now) target.sender target.signal.0 (real bits) }
+    ensures { left result (map T.stands_for records.new) times.now work.new image.now
+        ≡ change_of (memory state (map T.stands_for records.old) times.now work.old image.now) target.sender target.signal.0 (real bits) }
 {
-    value_change(
-        state,
-        records,
-        times,
-        work,
-        image,
-        target,
-        Value::Real(bits),
-        &[],
-    )
+    let given = RealBits(bits);
+    value_change(state, records, times, work, image, target, given)
 }

@@ -21,9 +21,10 @@ use Rattle.signal.specs.declared.kind.SignalEncoding.TheVariants.{BitVector, Rea
 use Rattle.signal.specs.declared.decode.ChangeValue.{ChangeValue}
 use Rattle.signal.specs.Content.{Content, happened, symbols, bits, ContentFits}
 use Rattle.signal.specs.Answer.{value_of}
-use Rattle.stream.specs.declared.read.ReadChange.TheVariants as read
 use Rattle.stream.specs.Stream.{Change, change, change_bytes, read_change, max_delta}
-use Rattle.stream.specs.Answer.{change_at, read_as}
+use Rattle.std.proofs.lemmas.Option.{same_Some}
+use Rattle.stream.specs.declared.read.ReadChange.{ReadChange}
+use Rattle.stream.specs.Answer.{change_at, read_as, read_of}
 use Rattle.stream.proofs.StreamTrip.{written_read, WrittenAs}
 use Rattle.entry.specs.Read.{states_in, packed_before, wide_read, content_read, Reads, PackedThere}
 
@@ -128,15 +129,16 @@ module _ (k : SignalEncoding) (s : List ℕ) (v : ChangeValue) (n p d : ℕ) (y 
         packed = λ u o m. subst (λ (z : ChangeValue). PackedThere u (class_number (states_in z)) n s) g (vector-there k u x.d x.content (take p s) r s n o m w.fits.fits form (sym h));
       }
 
-  pub read-there : change_at k s p ≡ read.Change d v n → ReadThere k s v n p d
+  pub read-there : change_at k s p ≡ read_of d v n → ReadThere k s v n p d
   read-there e = by (read_change k (drop p s)) refl e
     where
-      by : (g : Got Change) → read_change k (drop p s) ≡ g → read_as k (length s) g ≡ read.Change d v n → ReadThere k s v n p d
+      by : (g : Got Change) → read_change k (drop p s) ≡ g → read_as k (length s) g ≡ read_of d v n → ReadThere k s v n p d
       by bad q e = let z : ◌≡◌ {A = ℕ} 0 1 = cc in absurd (omega arith)
       by (got x r) q e =
-          let f : x.d ≡ d = cc in
-          let g : value_of k x.content ≡ v = cc in
-          let h : length s - length r ≡ n = cc in
+          let same = same_Some _ _ e in
+          let f : x.d ≡ d = ap (λ (c : ReadChange). c.delta) same in
+          let g : value_of k x.content ≡ v = ap (λ (c : ReadChange). c.value) same in
+          let h : length s - length r ≡ n = ap (λ (c : ReadChange). c.next) same in
           read-got x r q f g h
 
 pub reads-there : (k : SignalEncoding) (s : List ℕ) (v : ChangeValue) (n : ℕ) → Bytes s → (r : Reads k s v n) → ReadThere k s v n r.0 r.1

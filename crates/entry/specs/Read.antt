@@ -12,8 +12,7 @@ use Rattle.signal.specs.declared.kind.SignalEncoding.TheVariants.{BitVector, Rea
 use Rattle.signal.specs.declared.decode.ChangeValue.{ChangeValue}
 use Rattle.signal.specs.declared.decode.ChangeValue.TheVariants as value
 use Rattle.signal.specs.Content.{Content, happened, symbols, bits}
-use Rattle.stream.specs.declared.read.ReadChange.TheVariants as read
-use Rattle.stream.specs.Answer.{change_at}
+use Rattle.stream.specs.Answer.{change_at, read_of}
 
 -- the parts of a value; 0 and Two where it has no such part
 abbrev pub bit_in : ChangeValue → ℕ
@@ -54,7 +53,7 @@ content_read Absent s v n = happened
 
 -- at some place of the stream reading answers this value, and this place after the change
 abbrev pub Reads : SignalEncoding → List ℕ → ChangeValue → (next : ℕ) → Type 0
-Reads k s v n = (p : ℕ) × (d : ℕ) × (change_at k s p ≡ read.Change d v n)
+Reads k s v n = (p : ℕ) × (d : ℕ) × (change_at k s p ≡ read_of d v n)
 
 -- symbols packed in their own class stand before a place
 pub record PackedThere (w c n : ℕ) (s : List ℕ) : Type 0 where

@@ -1,4 +1,4 @@
-// The parts of a change's value; 0 and Two where it has no such part.
+// A change that was read in a stream, and the parts of its value.
 ghost use Rattle.std.specs.Prelude.{◌≡◌};
 ghost use Rattle.entry.specs.Read.{bit_in, states_in, bits_in};
 
@@ -6,38 +6,42 @@ use signal::decode::ChangeValue;
 use value::states::States;
 use value::symbol::Bit;
 
-// The symbol of a vector of width 1.
-pub fn bit_in(change: ChangeValue) -> Bit
-    ensures { result.0 ≡ bit_in change }
-{
-    match change {
-        ChangeValue::Event => Bit(0),
-        ChangeValue::SingleBit(bit) => bit,
-        ChangeValue::MultiBit(_) => Bit(0),
-        ChangeValue::Real(_) => Bit(0),
-    }
+// A change's value, and the place in the stream after it: there the packed bytes of a wider vector end.
+#[derive(Clone, Copy)]
+pub struct PlacedChange {
+    pub value: ChangeValue,
+    pub next: usize,
 }
 
-// The class of a wider vector's value.
-pub fn states_in(change: ChangeValue) -> States
-    ensures { result ≡ states_in change }
-{
-    match change {
-        ChangeValue::Event => States::Two,
-        ChangeValue::SingleBit(_) => States::Two,
-        ChangeValue::MultiBit(states) => states,
-        ChangeValue::Real(_) => States::Two,
+// The parts are 0 and Two where the value has no such part.
+impl PlacedChange {
+    // The symbol of a vector of width 1.
+    pub fn bit(self) -> Bit
+        ensures { result.0 ≡ bit_in self.value }
+    {
+        match self.value {
+            ChangeValue::SingleBit(bit) => bit,
+            _ => Bit(0),
+        }
     }
-}
 
-// The bits of a real.
-pub fn bits_in(change: ChangeValue) -> u64
-    ensures { result ≡ bits_in change }
-{
-    match change {
-        ChangeValue::Event => 0,
-        ChangeValue::SingleBit(_) => 0,
-        ChangeValue::MultiBit(_) => 0,
-        ChangeValue::Real(bits) => bits,
+    // The class of a wider vector's value.
+    pub fn states(self) -> States
+        ensures { result ≡ states_in self.value }
+    {
+        match self.value {
+            ChangeValue::MultiBit(states) => states,
+            _ => States::Two,
+        }
+    }
+
+    // The bits of a real.
+    pub fn bits(self) -> u64
+        ensures { result ≡ bits_in self.value }
+    {
+        match self.value {
+            ChangeValue::Real(bits) => bits,
+            _ => 0,
+        }
     }
 }

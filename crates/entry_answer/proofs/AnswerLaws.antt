@@ -16,8 +16,8 @@ use Rattle.value.specs.Class.{class_number, states_of, class_of, class_of_all, a
 use Rattle.value.specs.Real.{real_entry}
 use Rattle.value.specs.declared.real.Entry as declared
 use Rattle.value.specs.declared.states.States.{States}
-use Rattle.value.specs.declared.states.MaybeStates.{MaybeStates}
-use Rattle.value.specs.declared.states.MaybeStates.TheVariants.{Some, None}
+use Rattle.std.proofs.Common.{Some, None}
+use Rattle.std.specs.Prelude as std
 use Rattle.value.proofs.ClassLaws.{number-states, class-small, class-all-small}
 use Rattle.packed.specs.Packed.{packed_length, unpacked}
 use Rattle.packed.specs.Raw.{last_of}
@@ -46,10 +46,10 @@ bit-shown x out y r h e f =
 
 -- ---- packed symbols
 
-some-none : {A : Type 0} (x : States) (m : MaybeStates) → m ≡ Some x → m ≡ None → A
+some-none : {A : Type 0} (x : States) (m : std.Option States) → m ≡ Some x → m ≡ None → A
 some-none x m e f = let z : ◌≡◌ {A = ℕ} 0 1 = cc in absurd (omega arith)
 
-pub symbols-none : (s out : List ℕ) (m : MaybeStates) → m ≡ min_states s → m ≡ None → entry_after noEntry out ≡ content_after (all_symbols s) (symbols s) out
+pub symbols-none : (s out : List ℕ) (m : std.Option States) → m ≡ min_states s → m ≡ None → entry_after noEntry out ≡ content_after (all_symbols s) (symbols s) out
 unfolding min_states
 symbols-none s out m e f = by (all_symbols s) (sym e ∙ f)
   where
@@ -57,7 +57,7 @@ symbols-none s out m e f = by (all_symbols s) (sym e ∙ f)
     by true q = some-none (states_of (class_of_all s)) (Some (states_of (class_of_all s))) refl q
     by false q = refl
 
-pub symbols-some : (s out new : List ℕ) (m : MaybeStates) (x : States) (r : EntryReply) → m ≡ min_states s → m ≡ Some x → new ≡ sets out 0 s
+pub symbols-some : (s out new : List ℕ) (m : std.Option States) (x : States) (r : EntryReply) → m ≡ min_states s → m ≡ Some x → new ≡ sets out 0 s
     → r ≡ shown (vector (class_number x) 0) → entry_after r new ≡ content_after (all_symbols s) (symbols s) out
 unfolding min_states
 symbols-some s out new m x r e f g h = by (all_symbols s) (sym e ∙ f)

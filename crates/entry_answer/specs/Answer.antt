@@ -2,18 +2,19 @@
 -- lent buffer, one number a byte, leftmost first.
 -- Law (proofs/AnswerTrip): the bytes of a content that fits are answered as that content.
 -- Assumes nothing.
-use Rattle.std.specs.Prelude.{ℕ, zero, suc, Bool, true, false, ◌&&◌, List, length, ltb, leb, eqb}
+use Rattle.std.specs.Prelude.{ℕ, zero, suc, Bool, true, false, ◌&&◌, List, length, ltb, leb, eqb, Option, Some, None, Result, Ok, Err}
 use Rattle.std.proofs.lemmas.List.Edits.{sets}
 use Rattle.lists.specs.Choice.{pick}
 use Rattle.value.specs.Class.{all_symbols}
+use Rattle.value.specs.declared.real.Entry as declared
 use Rattle.signal.specs.declared.kind.SignalEncoding.{SignalEncoding}
 use Rattle.signal.specs.declared.kind.SignalEncoding.TheVariants.{BitVector, Real, Absent}
 use Rattle.signal.specs.Kind.{width_of}
 use Rattle.signal.specs.Content.{Content, symbols_of}
 use Rattle.loaded.specs.EntryBytes.{own_class_in, vector_content, entry_of}
 use Rattle.loaded.specs.Reader.{Shown, shown_as, entry_reply}
-use Rattle.entry_answer.specs.declared.EntryAnswer.{EntryAnswer}
-use Rattle.entry_answer.specs.declared.EntryAnswer.TheVariants as answer
+use Rattle.refusal.specs.declared.Refusal.{Refusal}
+use Rattle.refusal.specs.Refusal.{refusal_number}
 use Rattle.entry.specs.Length.{entry_length}
 
 pub data EntryReply : Type 0 where
@@ -21,10 +22,14 @@ pub data EntryReply : Type 0 where
   noEntry : EntryReply
   shown : Shown → EntryReply
 
-abbrev pub answer_reply : EntryAnswer → EntryReply
-answer_reply (answer.Value e) = shown (entry_reply e)
-answer_reply answer.NoEntry = noEntry
-answer_reply (answer.Refused n) = refuse n
+-- what the bytes say, if they are an entry
+abbrev pub held_reply : Option declared.Entry → EntryReply
+held_reply (Some e) = shown (entry_reply e)
+held_reply None = noEntry
+
+abbrev pub answer_reply : Result (Option declared.Entry) Refusal → EntryReply
+answer_reply (Ok o) = held_reply o
+answer_reply (Err r) = refuse (refusal_number r)
 
 -- the answer, and the lent buffer afterwards
 pub record EntryAfter : Type 0 where

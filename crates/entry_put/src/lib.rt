@@ -12,10 +12,9 @@ ghost use Rattle.entry.specs.Read.{wide_read, content_read, Reads, PackedThere};
 
 use copy::{put_part, put_same};
 use entry::length::wide_len;
-use entry::read::{bit_in, bits_in, states_in};
+use entry::read::PlacedChange;
 use numbers::little_endian::put_u64;
 use packed_symbols::bytes_required;
-use signal::decode::ChangeValue;
 use signal::kind::SignalEncoding;
 use value::states::States;
 use value::symbol::Bit;
@@ -59,19 +58,18 @@ fn put_bit(out: &mut [u8], at: usize, bit: Bit) -> usize
     at + 1
 }
 
-// Writes the entry of a change that reading answered before next, in a signal of a class, and answers the place after it.
+// Writes the entry of a change that was read in a stream, in a signal of a class, and answers the place after it.
 pub fn put_entry(
     out: &mut [u8],
     at: usize,
     stream: &[u8],
     kind: SignalEncoding,
     class: States,
-    change: ChangeValue,
-    next: usize,
+    change: PlacedChange,
 ) -> usize
-    requires reads { Reads kind stream.now change next × (class_of_all (symbols_of (content_read kind stream.now change next)) ≤ class_number class) }
-    requires next_in_bounds { at + length (entry_bytes kind (class_number class) (content_read kind stream.now change next)) ≤ length out.old }
-    ensures { (result ≡ at + length (entry_bytes kind (class_number class) (content_read kind stream.now change next))) × (out.new ≡ sets out.old at (entry_bytes kind (class_number class) (content_read kind stream.now change next))) }
+    requires reads { Reads kind stream.now change.value change.next × (class_of_all (symbols_of (content_read kind stream.now change.value change.next)) ≤ class_number class) }
+    requires next_in_bounds { at + length (entry_bytes kind (class_number class) (content_read kind stream.now change.value change.next)) ≤ length out.old }
+    ensures { (result ≡ at + length (entry_bytes kind (class_number class) (content_read kind stream.now change.value change.next))) × (out.new ≡ sets out.old at (entry_bytes kind (class_number class) (content_read kind stream.now change.value change.next))) }
 {
     match kind {
         SignalEncoding::BitVector(width) => {
@@ -79,11 +77,11 @@ pub fn put_entry(
                 return at;
             }
             if width == 1 {
-                return put_bit(out, at, bit_in(change));
+                return put_bit(out, at, change.bit());
             }
-            put_wide(out, at, stream, width, class, states_in(change), next)
+            put_wide(out, at, stream, width, class, change.states(), change.next)
         }
-        SignalEncoding::Real => put_u64(out, at, bits_in(change)),
+        SignalEncoding::Real => put_u64(out, at, change.bits()),
         SignalEncoding::Absent => at,
     }
 }

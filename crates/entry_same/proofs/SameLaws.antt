@@ -3,14 +3,13 @@
 use Prim.Native.Nat.{ℕ, zero, suc, ◌+◌, ◌-◌, ◌≤◌, ◌<◌}
 use mathlib.Core.Path.{◌≡◌, refl, sym, ap, ◌∙◌, subst}
 use mathlib.Core.Bool.{Bool, true, false, ◌&&◌, and-true}
-use mathlib.Core.List.{List}
+use mathlib.Core.List.{List, [], ◌∷◌}
 use native.Mathlib.Omega.{arith}
-use borrow.Author.Tests.{eq-eqb, ne_eqb}
 use lib.Dec.{eqb}
-use lib.ListN.{length, take, drop, get_or}
+use lib.Pointwise.{pointwise}
+use lib.ListN.{length, take, drop}
 use Rattle.lists.specs.Same.{same}
 use Rattle.lists.proofs.SameLaws.{same_true, same_self}
-use Rattle.lists.proofs.SetsLaws.{part-more}
 use Rattle.value.specs.Class.{class_number, class_of_all}
 use Rattle.packed.specs.Packed.{packed_length, packed, unpacked}
 use Rattle.signal.specs.declared.kind.SignalEncoding.{SignalEncoding}
@@ -19,24 +18,13 @@ use Rattle.signal.specs.declared.decode.ChangeValue.{ChangeValue}
 use Rattle.stream.specs.Entries.{repeats}
 use Rattle.entry.specs.Read.{bit_in, states_in, bits_in, packed_before, wide_read, content_read, PackedThere}
 
--- ---- two parts
-
-same_step : (n p q : ℕ) (a b : List ℕ) → p < length a → q < length b
-    → same (take (suc n) (drop p a)) (take (suc n) (drop q b)) ≡ eqb (get_or a p 0) (get_or b q 0) && same (take n (drop (suc p) a)) (take n (drop (suc q) b))
+-- what slices compared by `==` say
+pub equal_same : (a b : List ℕ) → pointwise eqb a b ≡ same a b
 unfolding same
-same_step n p q a b h k = rw (part-more n p a h, part-more n q b k) refl
-
-pub same_none : (p q : ℕ) (a b : List ℕ) → same (take 0 (drop p a)) (take 0 (drop q b)) ≡ true
-unfolding same
-same_none p q a b = refl
-
-pub same_next : (n m p q : ℕ) (a b : List ℕ) → n ≡ suc m → p < length a → q < length b → get_or a p 0 ≡ get_or b q 0
-    → same (take n (drop p a)) (take n (drop q b)) ≡ same (take m (drop (suc p) a)) (take m (drop (suc q) b))
-same_next n m p q a b f h k e = rw f (same_step m p q a b h k ∙ rw (eq-eqb (get_or a p 0) (get_or b q 0) e) refl)
-
-pub same_differs : (n m p q : ℕ) (a b : List ℕ) → n ≡ suc m → p < length a → q < length b → (get_or a p 0 ≡ get_or b q 0 → ⊥)
-    → same (take n (drop p a)) (take n (drop q b)) ≡ false
-same_differs n m p q a b f h k e = rw f (same_step m p q a b h k ∙ rw (ne_eqb (get_or a p 0) (get_or b q 0) e) refl)
+equal_same [] [] = refl
+equal_same [] (y ∷ b) = refl
+equal_same (x ∷ a) [] = refl
+equal_same (x ∷ a) (y ∷ b) = ap (λ (t : Bool). eqb x y && t) (equal_same a b)
 
 -- ---- symbols and their packed bytes
 

@@ -28,6 +28,5 @@ pub fn put_kind(image: &mut [u8], g: usize, record: SignalRecord)
     requires { kind_place g + 4 ≤ length image.old }
     ensures { image.new ≡ kind_put g «record» image.old }
 {
-    let kind = record.kind;
-    put_u32(image, kind_place(g), kind_number(kind));
+    put_u32(image, kind_place(g), kind_number(record.kind));
 }

@@ -1,10 +1,10 @@
--- Kinds and their numbers: every number is a kind, a known kind is read back from its number, and a law for each kind.
+-- Kinds and their numbers: every number is a kind, a known kind is read back from its number, and a width is its own.
 -- Assumes nothing.
 use Prim.Native.Nat.{ℕ}
 use mathlib.Core.Path.{◌≡◌, refl, sym}
 use mathlib.Core.Bool.{Bool, true, false}
 use native.Mathlib.Omega.{arith}
-use borrow.Author.Tests.{eqb-true, eq-eqb, ne_eqb, leb-true}
+use borrow.Author.Tests.{eqb-true, ne_eqb, leb-true}
 use lib.Dec.{eqb}
 use Rattle.lists.specs.Choice.{pick}
 use Rattle.signal.specs.declared.kind.SignalEncoding.{SignalEncoding}
@@ -23,13 +23,7 @@ kind-number n = by-absent (eqb n 0xffffffff) refl
     by-absent true e = sym (eqb-true n 0xffffffff e)
     by-absent false e = by-real (eqb n 0xfffffffe) refl
 
--- the kind of a number, a law for each
-pub kind-absent : (n : ℕ) → n ≡ 0xffffffff → Absent ≡ kind_from n
-kind-absent n e = rw (eq-eqb n 0xffffffff e) refl
-
-pub kind-real : (n : ℕ) → n ≡ 0xfffffffe → Real ≡ kind_from n
-kind-real n e = rw e refl
-
+-- a number that is no other kind's is a width
 pub kind-width : (n : ℕ) → (n ≡ 0xffffffff → ⊥) → (n ≡ 0xfffffffe → ⊥) → BitVector n ≡ kind_from n
 kind-width n a b = rw (ne_eqb n 0xffffffff a, ne_eqb n 0xfffffffe b) refl
 

@@ -1,4 +1,6 @@
 // Kinds of signals as numbers of 32 bits, as an image's head has them.
+//
+// They are functions and no impl of From: that could stand only in crate signal, whose type it is, and signal knows of no image.
 ghost use Rattle.std.specs.Prelude.{◌≡◌};
 ghost use Rattle.image.specs.Head.{kind_number, kind_from};
 
@@ -19,11 +21,9 @@ pub fn kind_number(kind: SignalEncoding) -> u32
 pub fn kind_from(n: u32) -> SignalEncoding
     ensures { result ≡ kind_from n }
 {
-    if n == 0xffffffff {
-        return SignalEncoding::Absent;
+    match n {
+        0xffffffff => SignalEncoding::Absent,
+        0xfffffffe => SignalEncoding::Real,
+        width => SignalEncoding::BitVector(width),
     }
-    if n == 0xfffffffe {
-        return SignalEncoding::Real;
-    }
-    SignalEncoding::BitVector(n)
 }

@@ -41,10 +41,7 @@ fn ask_load<W: Write>(
 ) -> io::Result<()> {
     let i = entries as usize;
     let b = size as usize;
-    if index.len() < i {
-        return print(to, b"not so many\n");
-    }
-    if bytes.len() < b {
+    if index.len() < i || bytes.len() < b {
         return print(to, b"not so many\n");
     }
     let answer = load(image, signal(number), &mut index[0..i], &mut bytes[0..b]);

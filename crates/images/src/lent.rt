@@ -8,28 +8,15 @@ pub const TIME: u64 = 0xa5a5a5a5a5a5a5a5;
 // The place from which on the pattern stands to the end.
 pub fn bytes_end(s: &[u8]) -> usize {
     let mut n = 0;
-    for i in 0..s.len() {
-        if s[i] != BYTE {
+    for (i, b) in s.iter().enumerate() {
+        if *b != BYTE {
             n = i + 1;
         }
     }
     n
 }
 
-pub fn numbers_stand(s: &[u32], from: usize) -> bool {
-    for i in from..s.len() {
-        if s[i] != NUMBER {
-            return false;
-        }
-    }
-    true
-}
-
-pub fn times_stand(s: &[u64], from: usize) -> bool {
-    for i in from..s.len() {
-        if s[i] != TIME {
-            return false;
-        }
-    }
-    true
+// Whether the pattern stands from a place on.
+pub fn stands<T: PartialEq>(s: &[T], from: usize, pattern: &T) -> bool {
+    s.iter().skip(from).all(|x| x == pattern)
 }

@@ -10,7 +10,7 @@ use ask::ask;
 use std::io;
 use std::io::Write;
 use text::number::hex_bytes;
-use text::{before, between, byte_at, past, read_full, word};
+use text::{before, byte_at, read_full, word};
 
 // Which word of a question has the image, its last one.
 fn image_word(name: u8) -> usize {
@@ -39,11 +39,7 @@ fn take_line<W: Write>(to: &mut W, line: &[u8], space: &mut [u8], n: usize) -> i
 // Takes each line. The text ends in a line feed.
 fn take_lines<W: Write>(to: &mut W, sheet: &[u8], space: &mut [u8]) -> io::Result<()> {
     let mut n = 0;
-    let mut at = 0;
-    while at < sheet.len() {
-        let end = past(sheet, at, b'\n');
-        let line = between(sheet, at, end);
-        at = end;
+    for line in sheet.split_inclusive(|b| *b == b'\n') {
         n = take_line(to, line, space, n)?;
     }
     Ok(())

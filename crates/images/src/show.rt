@@ -1,45 +1,42 @@
 // Answers, one to a line.
-use crate::lent::{bytes_end, numbers_stand, times_stand};
-use loaded::{CursorAnswer, LoadAnswer, TableAnswer};
-use numbers::wide_64;
+use crate::lent::{NUMBER, TIME, bytes_end, stands};
+use loaded::{Found, Loaded};
+use refusal::Refusal;
 use std::io;
 use std::io::Write;
-use text::{before, between, print, print_bytes, print_hex, print_number};
-use value::real::{Entry, SignalValue};
+use text::{before, print, print_bytes, print_hex, print_number};
+use value::real::SignalValue;
 use value::states::States;
 
 fn print_count<W: Write>(to: &mut W, name: &[u8], n: u32) -> io::Result<()> {
     print(to, name)?;
-    print_number(to, n as u64)
+    print_number(to, u64::from(n))
 }
 
 fn print_class<W: Write>(to: &mut W, class: States) -> io::Result<()> {
     print(to, b" class ")?;
-    print_number(to, class.number() as u64)
+    print_number(to, u64::from(class.number()))
 }
 
 // Ends a line; where memory that is to stand was written, says so.
-fn print_end<W: Write>(to: &mut W, stands: bool) -> io::Result<()> {
-    if stands {
+fn print_end<W: Write>(to: &mut W, stand: bool) -> io::Result<()> {
+    if stand {
         return print(to, b"\n");
     }
     print(to, b" changed\n")
 }
 
-fn print_refused<W: Write>(to: &mut W, number: u32, stands: bool) -> io::Result<()> {
-    print_count(to, b"refused ", number)?;
-    print_end(to, stands)
+fn print_refused<W: Write>(to: &mut W, refusal: Refusal, stand: bool) -> io::Result<()> {
+    print_count(to, b"refused ", refusal.number())?;
+    print_end(to, stand)
 }
 
 // ---- the combined table
 
 fn print_times<W: Write>(to: &mut W, times: &[u64], count: usize) -> io::Result<()> {
-    for i in 0..count {
-        if times.len() <= i {
-            return Ok(());
-        }
+    for time in times.iter().take(count) {
         print(to, b" ")?;
-        print_number(to, times[i])?;
+        print_number(to, *time)?;
     }
     Ok(())
 }
@@ -48,24 +45,25 @@ fn print_all_times<W: Write>(to: &mut W, count: u32, times: &[u64]) -> io::Resul
     print_count(to, b"times ", count)?;
     print(to, b":")?;
     print_times(to, times, count as usize)?;
-    print_end(to, times_stand(times, count as usize))
+    print_end(to, stands(times, count as usize, &TIME))
 }
 
-pub fn print_table<W: Write>(to: &mut W, answer: TableAnswer, times: &[u64]) -> io::Result<()> {
+pub fn print_table<W: Write>(
+    to: &mut W,
+    answer: Result<u32, Refusal>,
+    times: &[u64],
+) -> io::Result<()> {
     match answer {
-        TableAnswer::Table(count) => print_all_times(to, count, times),
-        TableAnswer::Refused(number) => print_refused(to, number, times_stand(times, 0)),
+        Ok(count) => print_all_times(to, count, times),
+        Err(refusal) => print_refused(to, refusal, stands(times, 0, &TIME)),
     }
 }
 
 // ---- a loaded signal
 
 fn print_indices<W: Write>(to: &mut W, index: &[u32], count: usize) -> io::Result<()> {
-    for i in 0..count {
-        if index.len() <= i {
-            return Ok(());
-        }
-        print_count(to, b" ", index[i])?;
+    for i in index.iter().take(count) {
+        print_count(to, b" ", *i)?;
     }
     Ok(())
 }
@@ -92,44 +90,35 @@ fn print_entries<W: Write>(
     print(to, b":")?;
     print_indices(to, index, count as usize)?;
     print_written(to, bytes)?;
-    print_end(to, numbers_stand(index, count as usize))
+    print_end(to, stands(index, count as usize, &NUMBER))
 }
 
-fn stand(index: &[u32], bytes: &[u8]) -> bool {
-    if numbers_stand(index, 0) {
-        return bytes_end(bytes) == 0;
-    }
-    false
+fn both_stand(index: &[u32], bytes: &[u8]) -> bool {
+    stands(index, 0, &NUMBER) && bytes_end(bytes) == 0
 }
 
 pub fn print_loaded<W: Write>(
     to: &mut W,
-    answer: LoadAnswer,
+    answer: Result<Loaded, Refusal>,
     index: &[u32],
     bytes: &[u8],
 ) -> io::Result<()> {
     match answer {
-        LoadAnswer::Loaded(count, class) => print_entries(to, count, class, index, bytes),
-        LoadAnswer::Refused(number) => print_refused(to, number, stand(index, bytes)),
+        Ok(loaded) => print_entries(to, loaded.count, loaded.class, index, bytes),
+        Err(refusal) => print_refused(to, refusal, both_stand(index, bytes)),
     }
 }
 
 // ---- the cursor
 
 // A byte that is no symbol is shown as `?`.
-fn print_symbol<W: Write>(to: &mut W, n: usize) -> io::Result<()> {
-    if n < 9 {
-        return print(to, between(b"01xzhuwl-", n, n + 1));
-    }
-    print(to, b"?")
-}
-
 fn print_symbols<W: Write>(to: &mut W, symbols: &[u8], count: usize) -> io::Result<()> {
-    for i in 0..count {
-        if symbols.len() <= i {
-            return Ok(());
-        }
-        print_symbol(to, wide_64(symbols[i]) as usize)?;
+    for symbol in symbols.iter().take(count) {
+        let letter = b"01xzhuwl-"
+            .get(usize::from(*symbol))
+            .copied()
+            .unwrap_or(b'?');
+        print(to, &[letter])?;
     }
     Ok(())
 }
@@ -169,20 +158,12 @@ fn print_place<W: Write>(to: &mut W, number: u32, time: u64) -> io::Result<()> {
     print_number(to, time)
 }
 
-fn print_found<W: Write>(
-    to: &mut W,
-    number: u32,
-    time: u64,
-    entry: Entry,
-    symbols: &[u8],
-) -> io::Result<()> {
-    print_place(to, number, time)?;
-    let bits = entry.bits;
-    let value = entry.value;
-    match value {
+fn print_found<W: Write>(to: &mut W, found: Found, symbols: &[u8]) -> io::Result<()> {
+    print_place(to, found.number, found.time)?;
+    match found.entry.value {
         SignalValue::Event => print_event(to, symbols),
         SignalValue::BitVec(class) => print_vector(to, class, symbols),
-        SignalValue::Real(real) => print_real(to, real, bits, symbols),
+        SignalValue::Real(real) => print_real(to, real, found.entry.bits, symbols),
     }
 }
 
@@ -191,10 +172,14 @@ fn print_none<W: Write>(to: &mut W, symbols: &[u8]) -> io::Result<()> {
     print_end(to, bytes_end(symbols) == 0)
 }
 
-pub fn print_cursor<W: Write>(to: &mut W, answer: CursorAnswer, symbols: &[u8]) -> io::Result<()> {
+pub fn print_cursor<W: Write>(
+    to: &mut W,
+    answer: Result<Option<Found>, Refusal>,
+    symbols: &[u8],
+) -> io::Result<()> {
     match answer {
-        CursorAnswer::Found(number, time, entry) => print_found(to, number, time, entry, symbols),
-        CursorAnswer::Nothing => print_none(to, symbols),
-        CursorAnswer::Refused(number) => print_refused(to, number, bytes_end(symbols) == 0),
+        Ok(Some(found)) => print_found(to, found, symbols),
+        Ok(None) => print_none(to, symbols),
+        Err(refusal) => print_refused(to, refusal, bytes_end(symbols) == 0),
     }
 }

@@ -16,7 +16,6 @@ use entry_answer::entry_value;
 use image::kind::kind_from;
 use interface_answers::images::{
     CursorNumbers, EntryNumbers, JoinNumbers, LoadNumbers, PartNumbers, TableNumbers,
-    cursor_numbers, entry_numbers, join_numbers, load_numbers, table_numbers,
 };
 use join::join;
 use opener::open;
@@ -42,7 +41,7 @@ pub extern "C" fn wejumo_load(
 ) -> LoadNumbers
     ensures { load_told result index.new bytes.new ≡ load_told_of (load_of image.now signal index.old bytes.old) }
 {
-    load_numbers(load(image, SignalRef(signal), index, bytes))
+    LoadNumbers::from(load(image, SignalRef(signal), index, bytes))
 }
 
 // The combined table. 11, 9.
@@ -50,7 +49,7 @@ pub extern "C" fn wejumo_load(
 pub extern "C" fn wejumo_table(image: &[u8], out: &mut [u64]) -> TableNumbers
     ensures { table_told result out.new ≡ table_told_of (table_of image.now out.old) }
 {
-    table_numbers(table(image, out))
+    TableNumbers::from(table(image, out))
 }
 
 // The stream of a signal in a block, as a place in the image; of length 0 where there is none.
@@ -75,7 +74,7 @@ pub extern "C" fn wejumo_cursor(
 ) -> CursorNumbers
     ensures { cursor_told result out.new ≡ cursor_told_of (cursor_of image.now signal time out.old) }
 {
-    cursor_numbers(cursor(image, SignalRef(signal), time, out))
+    CursorNumbers::from(cursor(image, SignalRef(signal), time, out))
 }
 
 // Writes one image made of two to the start of the output. 11, 14, 15, 16, 8.
@@ -83,7 +82,7 @@ pub extern "C" fn wejumo_cursor(
 pub extern "C" fn wejumo_join(first: &[u8], second: &[u8], out: &mut [u8]) -> JoinNumbers
     ensures { join_told result out.new ≡ join_told_of (join_of first.now second.now out.old) }
 {
-    join_numbers(join(first, second, out))
+    JoinNumbers::from(join(first, second, out))
 }
 
 // How many bytes each entry takes of a signal of a kind's number and a class.
@@ -91,7 +90,7 @@ pub extern "C" fn wejumo_join(first: &[u8], second: &[u8], out: &mut [u8]) -> Jo
 pub extern "C" fn wejumo_entry_length(kind: u32, class: u32) -> usize
     ensures { result ≡ entry_length (kind_from kind) (class_number (states_of class)) }
 {
-    entry_len(kind_from(kind), States::from_class(class))
+    entry_len(kind_from(kind), States::from_number(class))
 }
 
 // The bytes of one entry of a signal of a kind's number and a class. 9.
@@ -104,5 +103,5 @@ pub extern "C" fn wejumo_entry_value(
 ) -> EntryNumbers
     ensures { entry_told result out.new ≡ entry_told_of (entry_value_of (kind_from kind) (class_number (states_of class)) bytes.now out.old) }
 {
-    entry_numbers(entry_value(bytes, kind_from(kind), States::from_class(class), out))
+    EntryNumbers::from(entry_value(bytes, kind_from(kind), States::from_number(class), out))
 }

@@ -11,12 +11,10 @@ ghost use Rattle.interface_answers.specs.Answered.{load_told, load_told_of, tabl
 use cursor::cursor_in;
 use image::kind::kind_number;
 use interface_answers::images::{
-    CursorNumbers, LoadNumbers, PartNumbers, TableNumbers, cursor_numbers, load_numbers,
-    part_numbers, table_numbers,
+    CursorNumbers, LoadNumbers, PartNumbers, TableNumbers, part_numbers,
 };
 use loader::load::load_in;
-use walk::block::block_start;
-use walk::head::{block_count, kind_at, signal_count};
+use walk::open::OpenImage;
 use walk_part::part_in;
 use walk_table::{table_in, table_length};
 
@@ -26,7 +24,7 @@ pub extern "C" fn wejumo_opened_signals(image: &[u8]) -> u32
     requires { Opened image.now }
     ensures { result ≡ length (image_in image.now).kinds }
 {
-    signal_count(image)
+    OpenImage { bytes: image }.signal_count()
 }
 
 // How many blocks there are.
@@ -35,7 +33,7 @@ pub extern "C" fn wejumo_opened_blocks(image: &[u8]) -> u32
     requires { Opened image.now }
     ensures { result ≡ length (image_in image.now).blocks }
 {
-    block_count(image)
+    OpenImage { bytes: image }.block_count()
 }
 
 // How many times the combined table has.
@@ -44,7 +42,7 @@ pub extern "C" fn wejumo_opened_times(image: &[u8]) -> u32
     requires { Opened image.now }
     ensures { result ≡ length (table_from [] (image_in image.now).blocks) }
 {
-    table_length(image)
+    table_length(OpenImage { bytes: image })
 }
 
 // The number of a signal's kind; past the signals stands an absent one.
@@ -53,7 +51,7 @@ pub extern "C" fn wejumo_opened_kind(image: &[u8], signal: u32) -> u32
     requires { Opened image.now }
     ensures { result ≡ kind_number (kind_at (image_in image.now) signal) }
 {
-    kind_number(kind_at(image, signal))
+    kind_number(OpenImage { bytes: image }.kind_at(signal))
 }
 
 // Loads a signal. 4, 9.
@@ -67,7 +65,7 @@ pub extern "C" fn wejumo_opened_load(
     requires { Opened image.now }
     ensures { load_told result index.new bytes.new ≡ load_told_of (load_of image.now signal index.old bytes.old) }
 {
-    load_numbers(load_in(image, signal, index, bytes))
+    LoadNumbers::from(load_in(OpenImage { bytes: image }, signal, index, bytes))
 }
 
 // The combined table. 9.
@@ -76,7 +74,7 @@ pub extern "C" fn wejumo_opened_table(image: &[u8], out: &mut [u64]) -> TableNum
     requires { Opened image.now }
     ensures { table_told result out.new ≡ table_told_of (table_of image.now out.old) }
 {
-    table_numbers(table_in(image, out))
+    TableNumbers::from(table_in(OpenImage { bytes: image }, out))
 }
 
 // The stream of a signal in a block, as a place in the image, since a reference cannot be handed out; of length 0 where there is none.
@@ -86,10 +84,11 @@ pub extern "C" fn wejumo_opened_stream(image: &[u8], block: u32, signal: u32) ->
     ensures { (part_of result image.now ≡ stream_of image.now block signal)
         × (result.from + result.length ≤ length image.now) × PlaceOf result image.now block signal }
 {
-    if block_count(image) <= block {
+    let opened = OpenImage { bytes: image };
+    if opened.block_count() <= block {
         return PartNumbers { from: 0, length: 0 };
     }
-    part_numbers(part_in(image, block_start(image, block), signal))
+    part_numbers(part_in(opened.block(block), signal))
 }
 
 // The last entry of a signal at or before a time, or nothing. 4, 9.
@@ -103,5 +102,5 @@ pub extern "C" fn wejumo_opened_cursor(
     requires { Opened image.now }
     ensures { cursor_told result out.new ≡ cursor_told_of (cursor_of image.now signal time out.old) }
 {
-    cursor_numbers(cursor_in(image, signal, time, out))
+    CursorNumbers::from(cursor_in(OpenImage { bytes: image }, signal, time, out))
 }

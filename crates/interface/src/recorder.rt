@@ -8,13 +8,13 @@ ghost use Rattle.storage.specs.Storage.{records_of};
 ghost use Rattle.interface_state.specs.State.{state_from};
 ghost use Rattle.interface_answers.specs.Recorded.{told, told_of};
 
-use flat::finish::finish;
-use flat::start::start;
-use flat::time::time_change;
-use flat_changes::{raw_value_change, real_change, vcd_value_change};
+use encoder::changes::{raw_claim_change, real_change, vcd_value_change};
+use encoder::finish::finish;
+use encoder::start::start;
+use encoder::time::time_change;
 use interface_answers::outcome::{OutcomeNumbers, outcome_numbers};
-use interface_state::{StateNumbers, state_from};
-use recording::{Settings, Stamp, Target};
+use interface_state::StateNumbers;
+use recording::{Encoder, Settings, Stamp, Target};
 use signal::SignalRef;
 
 // Starts a recording; no work buffer is lent.
@@ -36,7 +36,7 @@ pub extern "C" fn wejumo_start(
         signals,
         edition,
     };
-    let done = start(state_from(state), settings, records, times, image);
+    let done = start(Encoder::from(state), settings, records, times, image);
     outcome_numbers(state, done)
 }
 
@@ -55,7 +55,7 @@ pub extern "C" fn wejumo_time_change(
         ≡ told_of state (time_of (memory (state_from state) (records_of records.old) times.old work.now image.old) sender time) }
 {
     let stamp = Stamp { sender, time };
-    let done = time_change(state_from(state), records, times, work, image, stamp);
+    let done = time_change(Encoder::from(state), records, times, work, image, stamp);
     outcome_numbers(state, done)
 }
 
@@ -79,7 +79,7 @@ pub extern "C" fn wejumo_vcd_value_change(
         signal: SignalRef(signal),
     };
     let done = vcd_value_change(
-        state_from(state),
+        Encoder::from(state),
         records,
         times,
         work,
@@ -111,8 +111,8 @@ pub extern "C" fn wejumo_raw_value_change(
         sender,
         signal: SignalRef(signal),
     };
-    let done = raw_value_change(
-        state_from(state),
+    let done = raw_claim_change(
+        Encoder::from(state),
         records,
         times,
         work,
@@ -143,7 +143,15 @@ pub extern "C" fn wejumo_real_change(
         sender,
         signal: SignalRef(signal),
     };
-    let done = real_change(state_from(state), records, times, work, image, target, bits);
+    let done = real_change(
+        Encoder::from(state),
+        records,
+        times,
+        work,
+        image,
+        target,
+        bits,
+    );
     outcome_numbers(state, done)
 }
 
@@ -159,6 +167,6 @@ pub extern "C" fn wejumo_finish(
     ensures { told result (records_of records.new) times.new work.now image.new
         ≡ told_of state (finish_of (memory (state_from state) (records_of records.old) times.old work.now image.old)) }
 {
-    let done = finish(state_from(state), records, times, work, image);
+    let done = finish(Encoder::from(state), records, times, work, image);
     outcome_numbers(state, done)
 }

@@ -8,10 +8,8 @@ pub extern "C" fn wejumo_sum(bytes: &[u8]) -> u64
     ensures { result ≡ sum_from 0 bytes.now }
 {
     let mut sum: u64 = 0;
-    let mut i: usize = 0;
-    while i < bytes.len() {
-        sum = std::num::wrapping_add_u64(sum, bytes[i] as u64);
-        i += 1;
+    for b in bytes {
+        sum = sum.wrapping_add(u64::from(*b));
     }
     sum
 }

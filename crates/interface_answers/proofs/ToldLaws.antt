@@ -6,8 +6,10 @@ use mathlib.Core.List.{List}
 use Rattle.recording.specs.declared.Encoder.{Encoder}
 use Rattle.recording.specs.declared.SignalRecord.{SignalRecord}
 use Rattle.recording.specs.declared.Outcome.{Outcome}
+use Rattle.std.specs.Prelude.{Result, Ok, Err}
+use Rattle.refusal.specs.declared.Refusal.{Refusal}
 use Rattle.recording.specs.declared.Answer.{Answer}
-use Rattle.recording.specs.declared.Answer.TheVariants.{Started, Taken, Same, Back, Recorded, Skipped, Finished, Refused}
+use Rattle.recording.specs.declared.Answer.TheVariants.{Started, Taken, Same, Back, Recorded, Skipped, Finished}
 use Rattle.recording.specs.Calls.{Reply, reply_of}
 use Rattle.recording.specs.Memory.{memory, After, after, refused}
 use Rattle.interface_state.specs.declared.StateNumbers.{StateNumbers}
@@ -29,15 +31,15 @@ pub refused-same : (s : StateNumbers) (records : List SignalRecord) (times work 
 unfolding told_of outcome_of
 refused-same s records times work image n = state-same s
 
-reply-back : (a : Answer) → read_reply (answer_number (reply_of a)) (value_number (reply_of a)) ≡ reply_of a
-reply-back Started = refl
-reply-back Taken = refl
-reply-back Same = refl
-reply-back Back = refl
-reply-back Recorded = refl
-reply-back Skipped = refl
-reply-back (Finished n) = refl
-reply-back (Refused n) = refl
+reply-back : (a : Result Answer Refusal) → read_reply (answer_number (reply_of a)) (value_number (reply_of a)) ≡ reply_of a
+reply-back (Ok Started) = refl
+reply-back (Ok Taken) = refl
+reply-back (Ok Same) = refl
+reply-back (Ok Back) = refl
+reply-back (Ok Recorded) = refl
+reply-back (Ok Skipped) = refl
+reply-back (Ok (Finished n)) = refl
+reply-back (Err r) = refl
 
 -- a caller reads the answer and the state that the call left, whatever numbers it got
 pub outcome-back : (s : StateNumbers) (o : Outcome) → let n = outcome_of s (reply_of o.answer) o.state in

@@ -5,6 +5,7 @@ ghost use Rattle.interface_answers.specs.Recorded.{answer_number, value_number, 
 
 use interface_state::{StateNumbers, state_after};
 use recording::{Answer, Outcome};
+use refusal::Refusal;
 
 // What a call answers, the refusal's number or the total bytes, and the state after it.
 #[repr(C)]
@@ -15,33 +16,29 @@ pub struct OutcomeNumbers {
     pub state: StateNumbers,
 }
 
-fn answer_number(answer: Answer) -> u32
+fn answer_number(answer: Result<Answer, Refusal>) -> u32
     ensures { result ≡ answer_number (reply_of answer) }
 {
     match answer {
-        Answer::Refused(_) => 0,
-        Answer::Started => 1,
-        Answer::Taken => 2,
-        Answer::Same => 3,
-        Answer::Back => 4,
-        Answer::Recorded => 5,
-        Answer::Skipped => 6,
-        Answer::Finished(_) => 7,
+        Ok(Answer::Started) => 1,
+        Ok(Answer::Taken) => 2,
+        Ok(Answer::Same) => 3,
+        Ok(Answer::Back) => 4,
+        Ok(Answer::Recorded) => 5,
+        Ok(Answer::Skipped) => 6,
+        Ok(Answer::Finished(_)) => 7,
+        Err(_) => 0,
     }
 }
 
-fn value_number(answer: Answer) -> u32
+fn value_number(answer: Result<Answer, Refusal>) -> u32
     ensures { result ≡ value_number (reply_of answer) }
 {
     match answer {
-        Answer::Refused(number) => number,
-        Answer::Started => 0,
-        Answer::Taken => 0,
-        Answer::Same => 0,
-        Answer::Back => 0,
-        Answer::Recorded => 0,
-        Answer::Skipped => 0,
-        Answer::Finished(total) => total,
+        Ok(Answer::Finished(total)) => total,
+        Ok(Answer::Started | Answer::Taken | Answer::Same | Answer::Back) => 0,
+        Ok(Answer::Recorded | Answer::Skipped) => 0,
+        Err(refusal) => refusal.number(),
     }
 }
 

@@ -26,27 +26,29 @@ pub struct StateNumbers {
 }
 
 // The recording that a caller's numbers say.
-pub fn state_from(state: StateNumbers) -> Encoder
-    ensures { result ≡ state_from state }
-{
-    let zero = ProbeSkip {
-        on: state.skip != 0,
-        count: state.skipped,
-    };
-    let one = ProbeSkip {
-        on: state.skip_1 != 0,
-        count: state.skipped_1,
-    };
-    Encoder {
-        closed: state.closed != 0,
-        limit: state.limit,
-        signals: state.signals,
-        held: state.held,
-        work: state.work,
-        image: state.image,
-        blocks: state.blocks,
-        edition: state.edition,
-        skips: Skips { zero, one },
+impl From<StateNumbers> for Encoder {
+    ghost from_gives = { λ state r. r ≡ state_from state };
+
+    fn from(state: StateNumbers) -> Encoder {
+        let zero = ProbeSkip {
+            on: state.skip != 0,
+            count: state.skipped,
+        };
+        let one = ProbeSkip {
+            on: state.skip_1 != 0,
+            count: state.skipped_1,
+        };
+        Encoder {
+            closed: state.closed != 0,
+            limit: state.limit,
+            signals: state.signals,
+            held: state.held,
+            work: state.work,
+            image: state.image,
+            blocks: state.blocks,
+            edition: state.edition,
+            skips: Skips { zero, one },
+        }
     }
 }
 
@@ -63,7 +65,7 @@ fn flag_after(before: u32, on: bool) -> u32
     before
 }
 
-// A recording as numbers again.
+// A recording as numbers again. No From: a flag that stays on keeps the number that it had before.
 pub fn state_after(before: StateNumbers, state: Encoder) -> StateNumbers
     ensures { result ≡ state_after before state }
 {

@@ -10,6 +10,10 @@ use borrow.Author.Tests.{lt-ltb, le-ltb, eq-eqb, ne_eqb}
 use lib.ListN.{length, get_or, drop, drop_of_length-le, length-map}
 use lib.Seq.{sets, drop-cons}
 use lib.Dec.{ltb, eqb}
+use Rattle.refusal.specs.declared.Refusal.{Refusal}
+use Rattle.refusal.specs.declared.Refusal.TheVariants.{BadStart, Closed, BeforeTime, NoSignal, WrongKind, BadValue, WorkFull, ImageFull, OutputShort, Altered, NoImage, Unlike, NoBlock}
+use Rattle.refusal.specs.declared.Refusal.TheVariants.{Overlap, Foreign}
+use Rattle.refusal.specs.Refusal.{refusal_number}
 use Rattle.lists.specs.Last.{last_or}
 use Rattle.lists.specs.Same.{same}
 use Rattle.signal.specs.declared.kind.SignalEncoding.{SignalEncoding}
@@ -150,6 +154,24 @@ module _ (x y : Image) (room : ℕ) where
         is-0 u f d = rw (a, b, c, ← e, ← f, d) refl
 
 -- ---- the answer
+
+-- no refusal has the number 0
+pub refusal-some : (r : Refusal) → refusal_number r ≡ 0 → ⊥
+refusal-some BadStart e = omega arith
+refusal-some Closed e = omega arith
+refusal-some BeforeTime e = omega arith
+refusal-some NoSignal e = omega arith
+refusal-some WrongKind e = omega arith
+refusal-some BadValue e = omega arith
+refusal-some WorkFull e = omega arith
+refusal-some ImageFull e = omega arith
+refusal-some OutputShort e = omega arith
+refusal-some Altered e = omega arith
+refusal-some NoImage e = omega arith
+refusal-some Unlike e = omega arith
+refusal-some NoBlock e = omega arith
+refusal-some Overlap e = omega arith
+refusal-some Foreign e = omega arith
 
 module _ (x y : Image) (out : List ℕ) (n : ℕ) (e : n ≡ first (join_tests x y (length out))) where
   pub join-refused : (n ≡ 0 → ⊥) → join_after (refuse n) out ≡ join_in x y out

@@ -7,59 +7,51 @@ mod put;
 mod tests;
 
 ghost use Rattle.std.specs.Prelude.{◌≡◌};
+ghost use Rattle.refusal.specs.Refusal.{refused_number};
 ghost use Rattle.recording.specs.Memory as memory;
 ghost use Rattle.joined.specs.Join.{join_tests, join_reply, join_after, join_in, join_of};
-ghost use Rattle.walk.specs.Walk.{Opened, image_in};
+ghost use Rattle.walk.specs.Open.{image_of};
 
 use crate::put::put_joined;
 use crate::tests::{differs, lacks_room, starts_early, total_of};
-use joined::JoinAnswer;
-use opener::open;
-use walk::head::block_count;
+use refusal::Refusal;
+use walk::open::OpenImage;
 
-// The number of the first test that refuses a join of accepted images, or 0: 14, 15, 16, 8.
-fn refusal(first: &[u8], second: &[u8], room: usize) -> u32
-    requires { Opened first.now × Opened second.now }
-    ensures { result ≡ memory.first (join_tests (image_in first.now) (image_in second.now) room) }
+// What refuses a join of accepted images, the first of these that does: 14, 15, 16, 8.
+fn refusal(first: OpenImage, second: OpenImage, room: usize) -> Result<(), Refusal>
+    ensures { refused_number result ≡ memory.first (join_tests (image_of first.entry) (image_of second.entry) room) }
 {
     if differs(first, second) {
-        return 14;
+        return Err(Refusal::Unlike);
     }
-    if block_count(first) == 0 {
-        return 15;
+    if first.block_count() == 0 {
+        return Err(Refusal::NoBlock);
     }
     if starts_early(first, second) {
-        return 16;
+        return Err(Refusal::Overlap);
     }
     if lacks_room(total_of(first, second), room) {
-        return 8;
+        return Err(Refusal::ImageFull);
     }
-    0
+    Ok(())
 }
 
 // Joins accepted images. 14, 15, 16, 8; a refused join leaves the output.
-pub fn join_in(first: &[u8], second: &[u8], out: &mut [u8]) -> JoinAnswer
-    requires { Opened first.now × Opened second.now }
-    ensures { join_after (join_reply result) out.new ≡ join_in (image_in first.now) (image_in second.now) out.old }
+pub fn join_in(first: OpenImage, second: OpenImage, out: &mut [u8]) -> Result<u32, Refusal>
+    ensures { join_after (join_reply result) out.new ≡ join_in (image_of first.entry) (image_of second.entry) out.old }
 {
-    let why = refusal(first, second, out.len());
-    if why != 0 {
-        return JoinAnswer::Refused(why);
-    }
+    refusal(first, second, out.len())?;
     let total = total_of(first, second);
     put_joined(first, second, out, total);
-    JoinAnswer::Joined(total as u32)
+    Ok(total as u32)
 }
 
 // Writes the image that two images make, one after the other, to the start of the output, and answers its total. 11, 14, 15, 16, 8.
-pub fn join(first: &[u8], second: &[u8], out: &mut [u8]) -> JoinAnswer
+pub fn join(first: &[u8], second: &[u8], out: &mut [u8]) -> Result<u32, Refusal>
     ensures { join_after (join_reply result) out.new ≡ join_of first.now second.now out.old }
 {
-    if !open(first) {
-        return JoinAnswer::Refused(11);
+    match (OpenImage::open(first), OpenImage::open(second)) {
+        (Some(first), Some(second)) => join_in(first, second, out),
+        _ => Err(Refusal::NoImage),
     }
-    if !open(second) {
-        return JoinAnswer::Refused(11);
-    }
-    join_in(first, second, out)
 }

@@ -1,7 +1,7 @@
 -- Document 02, 'Joining two recordings': one image out of two, the head of the first with N summed and the new total, then the blocks in
 -- order; and what refuses it.
 -- Assumes nothing.
-use Rattle.std.specs.Prelude.{ℕ, Bool, true, false, ◌||◌, not, List, [], ◌∷◌, ◌++◌, map, length, get_or, ltb, eqb}
+use Rattle.std.specs.Prelude.{ℕ, Bool, true, false, ◌||◌, not, List, [], ◌∷◌, ◌++◌, map, length, get_or, ltb, eqb, Result, Ok, Err}
 use Rattle.std.proofs.Math.Option.{Option, some, none}
 use Rattle.std.proofs.lemmas.List.Edits.{sets}
 use Rattle.lists.specs.Same.{same}
@@ -12,16 +12,16 @@ use Rattle.image.specs.Image.{Image, image, image_bytes}
 use Rattle.codec.specs.Ends.{end_after}
 use Rattle.codec.specs.Parse.{parse}
 use Rattle.recording.specs.Memory.{Tests, guarded}
-use Rattle.joined.specs.declared.JoinAnswer.{JoinAnswer}
-use Rattle.joined.specs.declared.JoinAnswer.TheVariants as answer
+use Rattle.refusal.specs.declared.Refusal.{Refusal}
+use Rattle.refusal.specs.Refusal.{refusal_number}
 
 pub data JoinReply : Type 0 where
   refuse : ℕ → JoinReply
   joined : (total : ℕ) → JoinReply
 
-abbrev pub join_reply : JoinAnswer → JoinReply
-join_reply (answer.Joined n) = joined n
-join_reply (answer.Refused n) = refuse n
+abbrev pub join_reply : Result ℕ Refusal → JoinReply
+join_reply (Ok n) = joined n
+join_reply (Err r) = refuse (refusal_number r)
 
 -- the answer, and the output afterwards
 pub record JoinAfter : Type 0 where

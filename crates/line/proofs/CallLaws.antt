@@ -1,7 +1,7 @@
 -- Which call a line makes, by its first word; an answer that may be missing, taken apart.
 -- Assumes nothing.
 use Prim.Native.Nat.{ℕ, ◌<◌}
-use mathlib.Core.Path.{◌≡◌, refl, sym, ap, ◌∙◌}
+use mathlib.Core.Path.{◌≡◌, refl}
 use mathlib.Core.Bool.{Bool, true, false}
 use mathlib.Core.List.{List, [], ◌∷◌}
 use native.Mathlib.Omega.{arith}
@@ -10,12 +10,15 @@ use lib.ListN.{length, get_or}
 use Rattle.lists.specs.Choice.{pick}
 use Rattle.lists.specs.Same.{same}
 use Rattle.ascii.specs.Ascii.{ascii}
-use Rattle.digits.specs.Numbers.{number_to}
-use Rattle.digits.specs.declared.Number.{Number}
-use Rattle.digits.specs.declared.Number32.{Number32}
-use Rattle.digits.specs.Value.{value_in, value_in32}
+use Rattle.std.specs.Prelude.{Option, Some, None, is_some, unwrap_or}
+use Rattle.std.specs.Bool.{then_some}
+use Rattle.digits.specs.Numbers.{bind}
+use Rattle.line.specs.declared.Command.{Command}
+use Rattle.line.specs.declared.Command.TheVariants as command
+use Rattle.line.specs.Command.{shown, said}
 use Rattle.line.specs.Words.{word}
-use Rattle.line.specs.Line.{number32, nothing, finish, notUnderstood, lend_of, edition_of, probes_of, sender_of, start_of, time_of, vcd_of, raw_of, real_of, change_of, choice_of, call_of, line_of}
+use Rattle.line.specs.Line.{Line, understood, nothing, finish, notUnderstood, lend_of, edition_of, probes_of, sender_of, start_of, time_of, vcd_of, raw_of, real_of, change_of, choice_of}
+use Rattle.line.specs.Line.{call_of, line_of}
 
 module _ (l : List ℕ) where
   -- the first word is none of the names before
@@ -72,6 +75,23 @@ module _ (l : List ℕ) where
   unfolding change_of
   change-finish a b d = rw (a, b, d) refl
 
+-- ---- a last part that a test b finds in the line: what is read where it is there
+
+pub said-then : {A : Type 0} (l : List ℕ) (o : Option A) (d : A) (k : A → Line) (x : Command) {b : Bool} {r : Option Command}
+    → r ≡ then_some b x → b ≡ is_some o → shown l x ≡ k (unwrap_or o d) → said l r ≡ understood (bind o (λ v. Some (k v)))
+said-then l None d k x e f h = rw (e, f) refl
+said-then l (Some v) d k x e f h = rw (e, f) h
+
+pub said-finish : (l : List ℕ) (b : Bool) {r : Option Command} → r ≡ then_some b command.Finish → said l r ≡ pick b finish notUnderstood
+unfolding shown
+said-finish l true e = rw e refl
+said-finish l false e = rw e refl
+
+pub said-shown : (l : List ℕ) (r : Option Command) → shown l (unwrap_or r command.NotUnderstood) ≡ said l r
+unfolding shown
+said-shown l None = refl
+said-shown l (Some x) = refl
+
 -- ---- an empty line, a comment, any other
 
 pub line-empty : (l : List ℕ) → length l ≡ 0 → nothing ≡ line_of l
@@ -88,16 +108,3 @@ pub line-call : (l : List ℕ) → 0 < length l → (get_or l 0 0 ≡ 35 → ⊥
 unfolding line_of
 line-call [] h n = absurd (omega arith)
 line-call (b ∷ l) h n = rw (ne_eqb b 35 n) refl
-
--- ---- a word s of the line, held against a name, by the answer r
-
-pub spelled : (r v : Bool) (s w name : List ℕ) → r ≡ same s name → s ≡ w → r ≡ v → same w name ≡ v
-spelled r v s w name e p q = sym (ap (λ (x : List ℕ). same x name) p) ∙ sym e ∙ q
-
--- ---- a number that was read of a part w of the line, by the answer v
-
-pub number_read : (r v : Number) (most : ℕ) (s w : List ℕ) → value_in r ≡ number_to most s → s ≡ w → r ≡ v → number_to most w ≡ value_in v
-number_read r v most s w e p q = sym (ap (number_to most) p) ∙ sym e ∙ ap value_in q
-
-pub number32-read : (r v : Number32) (s w : List ℕ) → value_in32 r ≡ number32 s → s ≡ w → r ≡ v → number32 w ≡ value_in32 v
-number32-read r v s w e p q = sym (ap number32 p) ∙ sym e ∙ ap value_in32 q

@@ -1,3 +1,4 @@
+pub mod MaybeLaws
 pub mod WordLaws
 pub mod HexLaws
 pub mod EachLaws

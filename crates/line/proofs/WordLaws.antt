@@ -1,66 +1,62 @@
 -- The words of a line, byte by byte and word by word.
 -- Assumes nothing.
-use Prim.Native.Nat.{ℕ, zero, suc, ◌-◌, ◌<◌, ◌≤◌}
-use mathlib.Core.Path.{◌≡◌, refl, ap}
+use Prim.Native.Nat.{ℕ, zero, suc, ◌-◌, ◌<◌}
+use mathlib.Core.Path.{◌≡◌, refl, sym, ap, ◌∙◌}
 use mathlib.Core.Bool.{Bool, true, false}
 use mathlib.Core.List.{List, [], ◌∷◌}
 use native.Mathlib.Omega.{arith}
 use native.Mathlib.Numerals.{sub-one}
-use borrow.Author.Tests.{eq-eqb, ne_eqb}
 use lib.Dec.{eqb}
-use lib.ListN.{length, get_or, take, drop, drop_of_length-le}
-use lib.Seq.{drop-cons}
+use lib.ListN.{length, take, drop, drop_of_length-le}
+use lib.Dec.{ltb}
+use borrow.Author.Tests.{ltb-true, ltb-false}
+use Rattle.std.specs.Prelude.{◌+◌, Some, None, cond, not, ◌&&◌, ◌==◌, position, bytes_eq, count_by}
+use Rattle.std.specs.List.{position_or_len}
+use Rattle.std.proofs.lemmas.List.Sums.{sum_by-cons}
+use lib.Seq.{take_all}
 use Rattle.lists.specs.Choice.{pick}
 use Rattle.lists.specs.Same.{same}
-use Rattle.lists.proofs.SameLaws.{same_true}
 use Rattle.line.specs.Words.{word_of, past_word, after, word, in_front, words_of}
 
--- ---- the first word and what follows it
+-- ---- the first word and what follows it, by the first space
 
-module _ (s : List ℕ) (i : ℕ) where
-  pub word_none : length s ≤ i → word_of (drop i s) ≡ []
-  unfolding word_of
-  word_none h = rw (drop_of_length-le s h) refl
+abbrev pub Space : ℕ → Bool
+Space = λ b. b == 32
 
-  pub past-none : length s ≤ i → past_word (drop i s) ≡ drop i s
-  unfolding past_word
-  past-none h = rw (drop_of_length-le s h) refl
-
-  module _ (h : i < length s) where
-    pub word-space : get_or s i 0 ≡ 32 → word_of (drop i s) ≡ []
-    unfolding word_of
-    word-space e = rw (drop-cons s i 0 h, e) refl
-
-    pub word-other : (get_or s i 0 ≡ 32 → ⊥) → word_of (drop i s) ≡ get_or s i 0 ∷ word_of (drop (suc i) s)
-    unfolding word_of
-    word-other n = rw (drop-cons s i 0 h, ne_eqb (get_or s i 0) 32 n) refl
-
-    pub past-space : get_or s i 0 ≡ 32 → past_word (drop i s) ≡ drop (suc i) s
-    unfolding past_word
-    past-space e = rw (drop-cons s i 0 h, e) refl
-
-    pub past-other : (get_or s i 0 ≡ 32 → ⊥) → past_word (drop i s) ≡ past_word (drop (suc i) s)
-    unfolding past_word
-    past-other n = rw (drop-cons s i 0 h, ne_eqb (get_or s i 0) 32 n) refl
-
--- the first word is the line's first bytes
-pub word-front : (l : List ℕ) → take (length (word_of l)) l ≡ word_of l
-unfolding word_of
-word-front [] = refl
-word-front (b ∷ l) = by (eqb b 32) (word-front l)
+space-place : (s : List ℕ) → (take (position_or_len Space s) s ≡ word_of s) × (drop (suc (position_or_len Space s)) s ≡ past_word s)
+unfolding word_of past_word
+space-place [] = (refl, refl)
+space-place (b ∷ l) = by (eqb b 32) (space-place l)
   where
-    by : (t : Bool) → take (length (word_of l)) l ≡ word_of l → take (length (pick t [] (b ∷ word_of l))) (b ∷ l) ≡ pick t [] (b ∷ word_of l)
-    by true e = refl
-    by false e = ap (λ (w : List ℕ). b ∷ w) e
+    by : (t : Bool) → (take (position_or_len Space l) l ≡ word_of l) × (drop (suc (position_or_len Space l)) l ≡ past_word l)
+        → (take (cond (not t) (1 + position_or_len Space l) 0) (b ∷ l) ≡ pick t [] (b ∷ word_of l))
+        × (drop (suc (cond (not t) (1 + position_or_len Space l) 0)) (b ∷ l) ≡ pick t l (past_word l))
+    by true h = (refl, refl)
+    by false h =
+        let e : 1 + position_or_len Space l ≡ suc (position_or_len Space l) = omega arith in
+        (rw e (ap (λ (w : List ℕ). b ∷ w) h.0), rw e h.1)
 
-pub word-length-le : (l : List ℕ) → length (word_of l) ≤ length l
-unfolding word_of
-word-length-le [] = omega arith
-word-length-le (b ∷ l) = by (eqb b 32) (word-length-le l)
+pub space-there : (s : List ℕ) (k : ℕ) → position Space s ≡ Some k → (take k s ≡ word_of s) × (drop (suc k) s ≡ past_word s) × (k < length s)
+space-there s k e = by (ltb (position_or_len Space s) (length s)) refl e
   where
-    by : (t : Bool) → length (word_of l) ≤ length l → length (pick t [] (b ∷ word_of l)) ≤ suc (length l)
-    by true h = omega arith
-    by false h = omega arith
+    by : (t : Bool) → ltb (position_or_len Space s) (length s) ≡ t → cond t (Some (position_or_len Space s)) None ≡ Some k
+        → (take k s ≡ word_of s) × (drop (suc k) s ≡ past_word s) × (k < length s)
+    by true h e =
+        let q : position_or_len Space s ≡ k = cc in
+        let p = space-place s in
+        (rw q at p.0, rw q at p.1, rw q at (ltb-true (position_or_len Space s) (length s) h))
+    by false h e = let z : ◌≡◌ {A = ℕ} 0 1 = cc in absurd (omega arith)
+
+pub space_none : (s : List ℕ) → position Space s ≡ None → (s ≡ word_of s) × ([] ≡ past_word s)
+space_none s e = by (ltb (position_or_len Space s) (length s)) refl e
+  where
+    by : (t : Bool) → ltb (position_or_len Space s) (length s) ≡ t → cond t (Some (position_or_len Space s)) None ≡ None
+        → (s ≡ word_of s) × ([] ≡ past_word s)
+    by true h e = let z : ◌≡◌ {A = ℕ} 0 1 = cc in absurd (omega arith)
+    by false h e =
+        let p = space-place s in
+        let g = ltb-false (position_or_len Space s) (length s) h in
+        (sym (take_all (position_or_len Space s) s g) ∙ p.0, sym (drop_of_length-le s {i = suc (position_or_len Space s)} (omega arith)) ∙ p.1)
 
 -- ---- what follows some words
 
@@ -111,36 +107,21 @@ word_at (suc k) l h =
     let m : k < length (more_words l) = omega arith in
     rw (e, p) (word_at k (past_word l) (rw p at m))
 
-pub words-none : (s : List ℕ) (i : ℕ) → length s ≤ i → length (words_of (drop i s)) ≡ 1
+pub words-count : (l : List ℕ) → length (words_of l) ≡ count_by Space l + 1
 unfolding words_of
-words-none s i h = rw (drop_of_length-le s h) refl
-
-pub words-space : (s : List ℕ) (i : ℕ) → i < length s → get_or s i 0 ≡ 32 → length (words_of (drop i s)) ≡ suc (length (words_of (drop (suc i) s)))
-unfolding words_of
-words-space s i h e = rw (drop-cons s i 0 h, e) refl
-
-pub words-other : (s : List ℕ) (i : ℕ) → i < length s → (get_or s i 0 ≡ 32 → ⊥) → length (words_of (drop i s)) ≡ length (words_of (drop (suc i) s))
-words-other s i h n = rw (drop-cons s i 0 h, words-cons (get_or s i 0 ∷ drop (suc i) s), words-cons (drop (suc i) s)) (ap suc (unfold more_words in rw (ne_eqb (get_or s i 0) 32 n) refl))
+words-count [] = refl
+words-count (b ∷ l) = rw (sum_by-cons (λ (x : ℕ). cond (Space x) 1 0) b l) (by (eqb b 32) (words-count l))
+  where
+    by : (t : Bool) → length (words_of l) ≡ count_by Space l + 1
+        → length (pick t ([] ∷ words_of l) (in_front b (words_of l))) ≡ cond t 1 0 + count_by Space l + 1
+    by true e = omega arith
+    by false e = rw (words-cons l) (omega (arith, ap length (words-cons l)))
 
 -- ---- a word that is compared
 
-module _ (a b : List ℕ) where
-  pub same_not : (length a ≡ length b → ⊥) → same a b ≡ false
-  same_not n = by (same a b) refl
-    where
-      by : (t : Bool) → same a b ≡ t → t ≡ false
-      by true e = absurd (n (ap length (same_true a b e)))
-      by false e = refl
-
-  module _ (i : ℕ) where
-    pub same_end : length a ≤ i → length b ≤ i → same (drop i a) (drop i b) ≡ true
-    unfolding same
-    same_end h g = rw (drop_of_length-le a h, drop_of_length-le b g) refl
-
-    pub same_next : i < length a → i < length b → get_or a i 0 ≡ get_or b i 0 → same (drop i a) (drop i b) ≡ same (drop (suc i) a) (drop (suc i) b)
-    unfolding same
-    same_next h g e = rw (drop-cons a i 0 h, drop-cons b i 0 g, eq-eqb (get_or a i 0) (get_or b i 0) e) refl
-
-    pub same-other : i < length a → i < length b → (get_or a i 0 ≡ get_or b i 0 → ⊥) → same (drop i a) (drop i b) ≡ false
-    unfolding same
-    same-other h g n = rw (drop-cons a i 0 h, drop-cons b i 0 g, ne_eqb (get_or a i 0) (get_or b i 0) n) refl
+pub same_as : (a b : List ℕ) → bytes_eq a b ≡ same a b
+unfolding same
+same_as [] [] = refl
+same_as [] (y ∷ b) = refl
+same_as (x ∷ a) [] = refl
+same_as (x ∷ a) (y ∷ b) = ap (λ (t : Bool). eqb x y && t) (same_as a b)

@@ -1,35 +1,27 @@
 -- What the answers of the code say, and the parts of a line that they leave in the line.
 -- Assumes nothing.
-use Rattle.std.specs.Prelude.{ℕ, suc, min, List, [], ◌∷◌, get_or, set}
-use Rattle.std.proofs.Math.Option.{Option, some, none}
-use Rattle.lists.specs.Choice.{or_empty}
+use Rattle.std.specs.Prelude.{ℕ, suc, min, List, [], ◌∷◌, get_or, set, Option, Some, None, unwrap_or}
 use Rattle.value.specs.declared.states.States.TheVariants.{Two}
 use Rattle.signal.specs.declared.kind.SignalEncoding.{SignalEncoding}
 use Rattle.recording.specs.declared.SignalRecord.{SignalRecord}
 use Rattle.recording.specs.Memory.{record_of}
 use Rattle.digits.specs.Numbers.{hex_bytes}
-use Rattle.line.specs.declared.kinds.MaybeKind.{MaybeKind}
-use Rattle.line.specs.declared.kinds.MaybeKind.TheVariants as kind
 use Rattle.line.specs.declared.Command.{Command}
 use Rattle.line.specs.declared.Command.TheVariants as command
 use Rattle.line.specs.Words.{after}
 use Rattle.line.specs.Line.{Line, nothing, lend, edition, probes, sender, start, time, vcd, raw, real, finish, notUnderstood, probes_in, kinds_in}
 
-abbrev pub kind_inside : MaybeKind → Option SignalEncoding
-kind_inside (kind.Some k) = some k
-kind_inside kind.None = none
-
 -- the bytes of HEX
 unfoldable pub bytes_in : List ℕ → List ℕ
-bytes_in s = or_empty (hex_bytes s)
+bytes_in s = unwrap_or (hex_bytes s) []
 
 -- the numbers of `probes`
 abbrev pub probe_list : List ℕ → List ℕ
-probe_list l = or_empty (probes_in l)
+probe_list l = unwrap_or (probes_in l) []
 
 -- the kinds of a start
 abbrev pub kind_list : List ℕ → List SignalEncoding
-kind_list l = or_empty (kinds_in l)
+kind_list l = unwrap_or (kinds_in l) []
 
 -- a command, with the parts that it leaves in its line
 unfoldable pub shown : List ℕ → Command → Line
@@ -46,10 +38,15 @@ shown l (command.Real g n) = real g n
 shown l command.Finish = finish
 shown l command.NotUnderstood = notUnderstood
 
+-- the same, where a line that is not understood has none
+abbrev pub said : List ℕ → Option Command → Line
+said l None = notUnderstood
+said l (Some c) = shown l c
+
 -- a number stored; nothing where there is none
 abbrev pub put_number : List ℕ → (at : ℕ) → Option ℕ → List ℕ
-put_number s at none = s
-put_number s at (some n) = set s at n
+put_number s at None = s
+put_number s at (Some n) = set s at n
 
 -- the record of a signal that has no change yet
 abbrev pub record_for : SignalEncoding → (probe : ℕ) → SignalRecord
@@ -66,5 +63,5 @@ records_for ps at (k ∷ ks) = record_for k (probe_at ps at) ∷ records_for ps 
 
 -- the record of a kind stored; nothing where there is none
 abbrev pub put_kind : List SignalRecord → (at probe : ℕ) → Option SignalEncoding → List SignalRecord
-put_kind rs at p none = rs
-put_kind rs at p (some k) = set rs at (record_for k p)
+put_kind rs at p None = rs
+put_kind rs at p (Some k) = set rs at (record_for k p)

@@ -1,13 +1,12 @@
 -- What a line of a sheet of calls says, the line being given without its line feed.
 -- Assumes nothing.
-use Rattle.std.specs.Prelude.{ℕ, min, List, [], ◌∷◌, eqb}
-use Rattle.std.proofs.Math.Option.{Option, some, none}
-use Rattle.lists.specs.Choice.{pick, bind}
+use Rattle.std.specs.Prelude.{ℕ, min, List, [], ◌∷◌, eqb, Option, Some, None}
+use Rattle.lists.specs.Choice.{pick}
 use Rattle.lists.specs.Same.{same}
 use Rattle.ascii.specs.Ascii.{ascii}
 use Rattle.signal.specs.declared.kind.SignalEncoding.{SignalEncoding}
 use Rattle.signal.specs.declared.kind.SignalEncoding.TheVariants.{BitVector, Real, Absent}
-use Rattle.digits.specs.Numbers.{number_to, hex_bytes, bits_of}
+use Rattle.digits.specs.Numbers.{bind, number_to, hex_bytes, bits_of}
 use Rattle.line.specs.Words.{after, word, each_in}
 
 pub data Line : Type 0 where
@@ -26,8 +25,8 @@ pub data Line : Type 0 where
   notUnderstood : Line
 
 abbrev pub understood : Option Line → Line
-understood none = notUnderstood
-understood (some l) = l
+understood None = notUnderstood
+understood (Some l) = l
 
 -- edition, probes, sender, signal, claim, S, B and widths have 32 bits
 abbrev pub number32 : List ℕ → Option ℕ
@@ -41,12 +40,12 @@ lend_of l =
     (bind (number_to 65535 (word 1 l)) (λ t.
     bind (number_to 1048576 (word 2 l)) (λ w.
     bind (number_to 1048576 (after 3 l)) (λ i.
-    some (lend t w i)))))
+    Some (lend t w i)))))
 
 -- ---- edition N: chosen for the starts after it
 
 unfoldable pub edition_of : List ℕ → Line
-edition_of l = understood (bind (number32 (after 1 l)) (λ n. some (edition n)))
+edition_of l = understood (bind (number32 (after 1 l)) (λ n. Some (edition n)))
 
 -- ---- probes P P ...: named by the records of the starts after it, in order
 
@@ -55,12 +54,12 @@ abbrev pub probes_in : List ℕ → Option (List ℕ)
 probes_in l = each_in number32 1 l
 
 unfoldable pub probes_of : List ℕ → Line
-probes_of l = understood (bind (probes_in l) (λ ps. some (probes ps)))
+probes_of l = understood (bind (probes_in l) (λ ps. Some (probes ps)))
 
 -- ---- sender N: of the times and changes after it
 
 unfoldable pub sender_of : List ℕ → Line
-sender_of l = understood (bind (number32 (after 1 l)) (λ n. some (sender n)))
+sender_of l = understood (bind (number32 (after 1 l)) (λ n. Some (sender n)))
 
 -- ---- start S B KIND KIND ...
 
@@ -71,10 +70,10 @@ vector n = BitVector (min n 65537)
 
 unfoldable pub kind_of : List ℕ → Option SignalEncoding
 kind_of w =
-    pick (same w (ascii "event")) (some (BitVector 0))
-    (pick (same w (ascii "real")) (some Real)
-    (pick (same w (ascii "absent")) (some Absent)
-    (bind (number32 w) (λ n. some (vector n)))))
+    pick (same w (ascii "event")) (Some (BitVector 0))
+    (pick (same w (ascii "real")) (Some Real)
+    (pick (same w (ascii "absent")) (Some Absent)
+    (bind (number32 w) (λ n. Some (vector n)))))
 
 -- the KINDs are the words after the third, at most 256
 abbrev pub kinds_in : List ℕ → Option (List SignalEncoding)
@@ -86,17 +85,17 @@ start_of l =
     (bind (number32 (word 1 l)) (λ s.
     bind (number32 (word 2 l)) (λ b.
     bind (kinds_in l) (λ ks.
-    some (start s b ks)))))
+    Some (start s b ks)))))
 
 -- ---- the other calls
 
 -- time N: 64 bits
 unfoldable pub time_of : List ℕ → Line
-time_of l = understood (bind (number_to 18446744073709551615 (after 1 l)) (λ n. some (time n)))
+time_of l = understood (bind (number_to 18446744073709551615 (after 1 l)) (λ n. Some (time n)))
 
 -- vcd SIGNAL TEXT: the rest of the line after one space, any bytes; empty, with or without the space, is the empty value
 unfoldable pub vcd_of : List ℕ → Line
-vcd_of l = understood (bind (number32 (word 1 l)) (λ g. some (vcd g (after 2 l))))
+vcd_of l = understood (bind (number32 (word 1 l)) (λ g. Some (vcd g (after 2 l))))
 
 -- raw SIGNAL CLAIM HEX: HEX may be empty or left out
 unfoldable pub raw_of : List ℕ → Line
@@ -105,7 +104,7 @@ raw_of l =
     (bind (number32 (word 1 l)) (λ g.
     bind (number32 (word 2 l)) (λ c.
     bind (hex_bytes (after 3 l)) (λ s.
-    some (raw g c s)))))
+    Some (raw g c s)))))
 
 -- real SIGNAL HEX16
 unfoldable pub real_of : List ℕ → Line
@@ -113,7 +112,7 @@ real_of l =
     understood
     (bind (number32 (word 1 l)) (λ g.
     bind (bits_of (after 2 l)) (λ n.
-    some (real g n))))
+    Some (real g n))))
 
 -- ---- the line
 

@@ -1,8 +1,8 @@
 -- The words of a line, which are parted by exactly one space: two spaces in a row part an empty word.
 -- Assumes nothing.
-use Rattle.std.specs.Prelude.{ℕ, zero, suc, ◌+◌, List, [], ◌∷◌, eqb, leb, length, drop}
-use Rattle.std.proofs.Math.Option.{Option, some, none}
-use Rattle.lists.specs.Choice.{pick, bind}
+use Rattle.std.specs.Prelude.{ℕ, zero, suc, ◌+◌, List, [], ◌∷◌, eqb, leb, length, drop, Option, Some, None}
+use Rattle.lists.specs.Choice.{pick}
+use Rattle.digits.specs.Numbers.{bind}
 
 -- the first word: what stands before the first space
 unfoldable pub word_of : List ℕ → List ℕ
@@ -35,9 +35,9 @@ words_of (b ∷ l) = pick (eqb b 32) ([] ∷ words_of l) (in_front b (words_of l
 
 -- what f reads of each word, where it reads all
 unfoldable pub each_of : {A : Type 0} → (List ℕ → Option A) → List (List ℕ) → Option (List A)
-each_of f [] = some []
-each_of f (w ∷ ws) = bind (f w) (λ x. bind (each_of f ws) (λ xs. some (x ∷ xs)))
+each_of f [] = Some []
+each_of f (w ∷ ws) = bind (f w) (λ x. bind (each_of f ws) (λ xs. Some (x ∷ xs)))
 
 -- so of the words after the first k; they are at most 256
 unfoldable pub each_in : {A : Type 0} → (List ℕ → Option A) → (k : ℕ) → List ℕ → Option (List A)
-each_in f k l = pick (leb (length (words_of l)) (k + 256)) (each_of f (drop k (words_of l))) none
+each_in f k l = pick (leb (length (words_of l)) (k + 256)) (each_of f (drop k (words_of l))) None

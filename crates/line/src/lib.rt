@@ -12,10 +12,10 @@ pub mod probes;
 pub mod words;
 
 ghost use Rattle.std.specs.Prelude.{◌≡◌};
-ghost use Rattle.line.specs.Line.{lend_of, edition_of, probes_of, sender_of, start_of, time_of, vcd_of, raw_of, real_of, change_of, choice_of, call_of, line_of};
-ghost use Rattle.line.specs.Command.{shown};
+ghost use Rattle.line.specs.Line.{lend_of, edition_of, probes_of, sender_of, start_of, time_of, vcd_of, raw_of, real_of, call_of, line_of};
+ghost use Rattle.line.specs.Command.{shown, said};
 
-use digits::{Number, Number32, bits, decimal, decimal_32};
+use digits::{bits, decimal, decimal_32};
 use hex::is_hex;
 use kinds::has_kinds;
 use probes::has_probes;
@@ -49,183 +49,116 @@ pub enum Command {
     // The signal and the bits.
     Real(u32, u64),
     Finish,
+    // A case, and no Option around the others: a sheet tells it in the one match over its lines, which would be no plainer by two.
     NotUnderstood,
 }
 
 // `lend TIMES WORK IMAGE`.
-fn read_lend(line: &[u8]) -> Command
-    ensures { shown line.now result ≡ lend_of line.now }
+fn read_lend(line: &[u8]) -> Option<Command>
+    ensures { said line.now result ≡ lend_of line.now }
 {
-    let Number::Value(times) = decimal(word(line, 1), MAX_TIMES) else {
-        return Command::NotUnderstood;
-    };
-    let Number::Value(work) = decimal(word(line, 2), MAX_BYTES) else {
-        return Command::NotUnderstood;
-    };
-    let Number::Value(image) = decimal(after(line, 3), MAX_BYTES) else {
-        return Command::NotUnderstood;
-    };
-    Command::Lend(times, work, image)
+    let times = decimal(word(line, 1), MAX_TIMES)?;
+    let work = decimal(word(line, 2), MAX_BYTES)?;
+    let image = decimal(after(line, 3), MAX_BYTES)?;
+    Some(Command::Lend(times, work, image))
 }
 
 // `edition N`.
-fn read_edition(line: &[u8]) -> Command
-    ensures { shown line.now result ≡ edition_of line.now }
+fn read_edition(line: &[u8]) -> Option<Command>
+    ensures { said line.now result ≡ edition_of line.now }
 {
-    match decimal_32(after(line, 1)) {
-        Number32::Value(edition) => Command::Edition(edition),
-        Number32::None => Command::NotUnderstood,
-    }
+    Some(Command::Edition(decimal_32(after(line, 1))?))
 }
 
 // `probes P P ...`.
-fn read_probes(line: &[u8]) -> Command
-    ensures { shown line.now result ≡ probes_of line.now }
+fn read_probes(line: &[u8]) -> Option<Command>
+    ensures { said line.now result ≡ probes_of line.now }
 {
-    if has_probes(line) {
-        return Command::Probes;
-    }
-    Command::NotUnderstood
+    has_probes(line).then_some(Command::Probes)
 }
 
 // `sender N`.
-fn read_sender(line: &[u8]) -> Command
-    ensures { shown line.now result ≡ sender_of line.now }
+fn read_sender(line: &[u8]) -> Option<Command>
+    ensures { said line.now result ≡ sender_of line.now }
 {
-    match decimal_32(after(line, 1)) {
-        Number32::Value(sender) => Command::Sender(sender),
-        Number32::None => Command::NotUnderstood,
-    }
+    Some(Command::Sender(decimal_32(after(line, 1))?))
 }
 
 // `start S B KIND KIND ...`.
-fn read_start(line: &[u8]) -> Command
-    ensures { shown line.now result ≡ start_of line.now }
+fn read_start(line: &[u8]) -> Option<Command>
+    ensures { said line.now result ≡ start_of line.now }
 {
-    let Number32::Value(signals) = decimal_32(word(line, 1)) else {
-        return Command::NotUnderstood;
-    };
-    let Number32::Value(limit) = decimal_32(word(line, 2)) else {
-        return Command::NotUnderstood;
-    };
-    if has_kinds(line) {
-        return Command::Start(signals, limit);
-    }
-    Command::NotUnderstood
+    let signals = decimal_32(word(line, 1))?;
+    let limit = decimal_32(word(line, 2))?;
+    has_kinds(line).then_some(Command::Start(signals, limit))
 }
 
 // `time N`.
-fn read_time(line: &[u8]) -> Command
-    ensures { shown line.now result ≡ time_of line.now }
+fn read_time(line: &[u8]) -> Option<Command>
+    ensures { said line.now result ≡ time_of line.now }
 {
-    match decimal(after(line, 1), 18446744073709551615) {
-        Number::Value(time) => Command::Time(time),
-        Number::None => Command::NotUnderstood,
-    }
+    Some(Command::Time(decimal(after(line, 1), u64::MAX)?))
 }
 
 // `vcd SIGNAL TEXT`.
-fn read_vcd(line: &[u8]) -> Command
-    ensures { shown line.now result ≡ vcd_of line.now }
+fn read_vcd(line: &[u8]) -> Option<Command>
+    ensures { said line.now result ≡ vcd_of line.now }
 {
-    match decimal_32(word(line, 1)) {
-        Number32::Value(signal) => Command::Vcd(signal),
-        Number32::None => Command::NotUnderstood,
-    }
+    Some(Command::Vcd(decimal_32(word(line, 1))?))
 }
 
 // `raw SIGNAL CLAIM HEX`.
-fn read_raw(line: &[u8]) -> Command
-    ensures { shown line.now result ≡ raw_of line.now }
+fn read_raw(line: &[u8]) -> Option<Command>
+    ensures { said line.now result ≡ raw_of line.now }
 {
-    let Number32::Value(signal) = decimal_32(word(line, 1)) else {
-        return Command::NotUnderstood;
-    };
-    let Number32::Value(claim) = decimal_32(word(line, 2)) else {
-        return Command::NotUnderstood;
-    };
-    if is_hex(after(line, 3)) {
-        return Command::Raw(signal, claim);
-    }
-    Command::NotUnderstood
+    let signal = decimal_32(word(line, 1))?;
+    let claim = decimal_32(word(line, 2))?;
+    is_hex(after(line, 3)).then_some(Command::Raw(signal, claim))
 }
 
 // `real SIGNAL HEX16`.
-fn read_real(line: &[u8]) -> Command
-    ensures { shown line.now result ≡ real_of line.now }
+fn read_real(line: &[u8]) -> Option<Command>
+    ensures { said line.now result ≡ real_of line.now }
 {
-    let Number32::Value(signal) = decimal_32(word(line, 1)) else {
-        return Command::NotUnderstood;
-    };
-    match bits(after(line, 2)) {
-        Number::Value(n) => Command::Real(signal, n),
-        Number::None => Command::NotUnderstood,
-    }
+    let signal = decimal_32(word(line, 1))?;
+    let bits = bits(after(line, 2))?;
+    Some(Command::Real(signal, bits))
 }
 
-// A change or a finish.
-fn read_change(line: &[u8]) -> Command
-    ensures { shown line.now result ≡ change_of line.now }
-{
-    let name = word(line, 0);
-    if spells(name, b"vcd") {
-        return read_vcd(line);
-    }
-    if spells(name, b"raw") {
-        return read_raw(line);
-    }
-    if spells(name, b"real") {
-        return read_real(line);
-    }
-    if spells(line, b"finish") {
-        return Command::Finish;
-    }
-    Command::NotUnderstood
-}
-
-// A line that chooses something for those after it, or a change.
-fn read_choice(line: &[u8]) -> Command
-    ensures { shown line.now result ≡ choice_of line.now }
-{
-    let name = word(line, 0);
-    if spells(name, b"edition") {
-        return read_edition(line);
-    }
-    if spells(name, b"probes") {
-        return read_probes(line);
-    }
-    if spells(name, b"sender") {
-        return read_sender(line);
-    }
-    read_change(line)
-}
-
-// A line that is neither empty nor a comment. Choices and changes are left to functions of their own, so that each proof stays short.
-fn read_call(line: &[u8]) -> Command
-    ensures { shown line.now result ≡ call_of line.now }
+// A line that is neither empty nor a comment; its first word says which call it makes.
+fn read_call(line: &[u8]) -> Option<Command>
+    ensures { said line.now result ≡ call_of line.now }
 {
     let name = word(line, 0);
     if spells(name, b"lend") {
-        return read_lend(line);
+        read_lend(line)
+    } else if spells(name, b"start") {
+        read_start(line)
+    } else if spells(name, b"time") {
+        read_time(line)
+    } else if spells(name, b"edition") {
+        read_edition(line)
+    } else if spells(name, b"probes") {
+        read_probes(line)
+    } else if spells(name, b"sender") {
+        read_sender(line)
+    } else if spells(name, b"vcd") {
+        read_vcd(line)
+    } else if spells(name, b"raw") {
+        read_raw(line)
+    } else if spells(name, b"real") {
+        read_real(line)
+    } else {
+        spells(line, b"finish").then_some(Command::Finish)
     }
-    if spells(name, b"start") {
-        return read_start(line);
-    }
-    if spells(name, b"time") {
-        return read_time(line);
-    }
-    read_choice(line)
 }
 
 // What a line says.
 pub fn read_line(line: &[u8]) -> Command
     ensures { shown line.now result ≡ line_of line.now }
 {
-    if line.len() == 0 {
+    if line.is_empty() || line[0] == b'#' {
         return Command::Nothing;
     }
-    if line[0] == b'#' {
-        return Command::Nothing;
-    }
-    read_call(line)
+    read_call(line).unwrap_or(Command::NotUnderstood)
 }

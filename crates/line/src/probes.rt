@@ -1,20 +1,18 @@
 // The probes that the records of later starts name, which are the words of their line after the first.
-ghost use Rattle.std.specs.Prelude.{◌≡◌, set};
+ghost use Rattle.std.specs.Prelude.{◌≡◌, is_some, set};
 ghost use Rattle.std.proofs.lemmas.List.Edits.{sets};
-ghost use Rattle.lists.specs.Choice.{is_some};
 ghost use Rattle.line.specs.Line.{number32, probes_in};
 ghost use Rattle.line.specs.Command.{probe_list, put_number};
 
-use crate::words::{count_words, word};
-use digits::{Number32, decimal_32};
+use crate::words::{FromWord, count_words, has_words, word};
+use digits::decimal_32;
 
-// A word is a number of 32 bits.
-fn is_number(w: &[u8]) -> bool
-    ensures { result ≡ is_some (number32 w.now) }
-{
-    match decimal_32(w) {
-        Number32::Value(n) => true,
-        Number32::None => false,
+// A number of 32 bits.
+impl FromWord for u32 {
+    ghost of_word = { number32 };
+
+    fn from_word(w: &[u8]) -> Option<u32> {
+        decimal_32(w)
     }
 }
 
@@ -22,18 +20,7 @@ fn is_number(w: &[u8]) -> bool
 pub fn has_probes(line: &[u8]) -> bool
     ensures { result ≡ is_some (probes_in line.now) }
 {
-    let n = count_words(line);
-    if 257 < n {
-        return false;
-    }
-    let mut k = 1;
-    while k < n {
-        if !is_number(word(line, k)) {
-            return false;
-        }
-        k += 1;
-    }
-    true
+    has_words::<u32>(line, 1)
 }
 
 // Stores a number; past the end nothing is written.
@@ -49,9 +36,8 @@ fn put(out: &mut [u64], at: usize, n: u64)
 fn put_number(out: &mut [u64], at: usize, w: &[u8])
     ensures { out.new ≡ put_number out.old at (number32 w.now) }
 {
-    match decimal_32(w) {
-        Number32::Value(n) => put(out, at, n as u64),
-        Number32::None => {}
+    if let Some(n) = decimal_32(w) {
+        put(out, at, u64::from(n));
     }
 }
 
@@ -62,12 +48,7 @@ pub fn put_probes(out: &mut [u64], line: &[u8])
     if !has_probes(line) {
         return;
     }
-    let n = count_words(line);
-    let mut at: usize = 0;
-    let mut k = 1;
-    while k < n {
-        put_number(out, at, word(line, k));
-        at += 1;
-        k += 1;
+    for k in 1..count_words(line) {
+        put_number(out, k - 1, word(line, k));
     }
 }

@@ -1,89 +1,95 @@
 // The words of a line, parted by exactly one space.
-ghost use Rattle.std.specs.Prelude.{◌≤◌, ◌≡◌, length, drop};
+ghost use Rattle.std.specs.Prelude.{◌==◌, ◌≡◌, List, Option, count_by, is_some, length, position, ℕ};
 ghost use Rattle.lists.specs.Same.{same};
 ghost use Rattle.line.specs.Words as spec;
 
-// How long the first word is.
-fn word_length(s: &[u8]) -> usize
-    ensures { result ≡ length (spec.word_of s.now) }
+// The place of the first space.
+fn space(s: &[u8]) -> Option<usize>
+    ensures { result ≡ position (λ b. b == 32) s.now }
 {
-    let mut i = 0;
-    while i < s.len() {
-        if s[i] == b' ' {
-            return i;
-        }
-        i += 1;
-    }
-    i
+    s.iter().position(|b| *b == b' ')
 }
 
-// The place after the first space from a place on; the end where there is none.
-fn past_space(s: &[u8], at: usize) -> usize
-    requires { at ≤ length s.now }
-    ensures { (result ≤ length s.now) × (drop result s.now ≡ spec.past_word (drop at s.now)) }
+// What stands before the first space.
+fn first_word(s: &[u8]) -> &[u8]
+    ensures { result.now ≡ spec.word_of s.now }
 {
-    let mut i = at;
-    while i < s.len() {
-        let b = s[i];
-        i += 1;
-        if b == b' ' {
-            return i;
-        }
+    match space(s) {
+        Some(at) => &s[..at],
+        None => s,
     }
-    i
+}
+
+// What stands after the first space; nothing where there is none.
+fn past_word(s: &[u8]) -> &[u8]
+    ensures { result.now ≡ spec.past_word s.now }
+{
+    match space(s) {
+        Some(at) => &s[at + 1..],
+        None => &[],
+    }
 }
 
 // What stands after the first k words and the space behind each.
 pub fn after(s: &[u8], k: usize) -> &[u8]
     ensures { result.now ≡ spec.after k s.now }
 {
-    let mut at = 0;
-    let mut left = k;
-    while 0 < left {
-        at = past_space(s, at);
-        left -= 1;
+    let mut rest = s;
+    for _ in 0..k {
+        rest = past_word(rest);
     }
-    &s[at..]
+    rest
 }
 
-// Word k, counted from 0; an empty one where there are fewer.
+// FromWord k, counted from 0; an empty one where there are fewer.
 pub fn word(s: &[u8], k: usize) -> &[u8]
     ensures { result.now ≡ spec.word k s.now }
 {
-    let rest = after(s, k);
-    let end = word_length(rest);
-    &rest[0..end]
+    first_word(after(s, k))
+}
+
+// How many spaces there are.
+fn spaces(s: &[u8]) -> usize
+    ensures { result ≡ count_by (λ b. b == 32) s.now }
+{
+    s.iter().filter(|b| **b == b' ').count()
 }
 
 // How many words there are.
 pub fn count_words(s: &[u8]) -> usize
     ensures { result ≡ length (spec.words_of s.now) }
 {
-    let mut spaces: usize = 0;
-    let mut i = 0;
-    while i < s.len() {
-        let b = s[i];
-        i += 1;
-        if b == b' ' {
-            spaces += 1;
-        }
-    }
-    spaces + 1
+    spaces(s) + 1
 }
 
 // A word is this name.
 pub fn spells(w: &[u8], name: &[u8]) -> bool
     ensures { result ≡ same w.now name.now }
 {
-    if w.len() != name.len() {
+    w == name
+}
+
+// What a word can stand for.
+pub trait FromWord: Copy {
+    // What is read of the word.
+    ghost of_word: { List ℕ → Option Self };
+
+    fn from_word(w: &[u8]) -> Option<Self>
+        ensures { result ≡ of_word w.now };
+}
+
+// The words after the first so many stand for such, and are at most 256.
+pub fn has_words<T: FromWord>(line: &[u8], first: usize) -> bool
+    ensures { result ≡ is_some (spec.each_in T.of_word first line.now) }
+{
+    let n = count_words(line);
+    if 256 < n.saturating_sub(first) {
         return false;
     }
-    let mut i = 0;
-    while i < w.len() {
-        if w[i] != name[i] {
+    for k in first..n {
+        if T::from_word(word(line, k)).is_none() {
             return false;
         }
-        i += 1;
     }
     true
 }

@@ -1,10 +1,8 @@
 -- Document 01, 'Bench sheet': a listing goes into a lent buffer, and its length is answered.
 -- Assumes nothing.
-use Rattle.std.specs.Prelude.{ℕ, List, length, leb}
+use Rattle.std.specs.Prelude.{ℕ, List, length, leb, Option, Some, None}
 use Rattle.std.proofs.lemmas.List.Edits.{sets}
 use Rattle.lists.specs.Choice.{pick}
-use Rattle.listing.specs.declared.Listed.{Listed}
-use Rattle.listing.specs.declared.Listed.TheVariants as listed
 
 pub data ListingReply : Type 0 where
   written : (length : ℕ) → ListingReply
@@ -23,6 +21,6 @@ abbrev pub into : (text out : List ℕ) → ListingAfter
 into text out = pick (leb (length text) (length out)) (listing_after (written (length text)) (sets out 0 text)) (listing_after too_short out)
 
 -- the answer of the code
-abbrev pub listed_reply : Listed → ListingReply
-listed_reply (listed.Text n) = written n
-listed_reply listed.TooShort = too_short
+abbrev pub listed_reply : Option ℕ → ListingReply
+listed_reply (Some n) = written n
+listed_reply None = too_short

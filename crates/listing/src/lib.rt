@@ -14,44 +14,34 @@ use ascii::write::put_text;
 use listing_text::accepted::image_text;
 use opener::open;
 
-// What a listing answers.
-#[derive(Clone, Copy)]
-pub enum Listed {
-    // The text's length; it stands at the start of the lent buffer.
-    Text(usize),
-    // The text exceeds the lent buffer.
-    TooShort,
-}
+// How many bytes an image has at most; a longer input is refused.
+const MOST_READ: usize = 16384;
 
 // Writes the listing to the start of a buffer that every listing fits into, and answers its length.
 pub fn listing_text(image: &[u8], out: &mut [u8]) -> usize
     requires { listing_limit ≤ length out.old }
     ensures { Puts (listing_of image.now) 0 out.old result out.new }
 {
-    if 16384 < image.len() {
-        return put_text(out, 0, b"refused 11\n");
-    }
-    if !open(image) {
+    if MOST_READ < image.len() || !open(image) {
         return put_text(out, 0, b"refused 11\n");
     }
     image_text(image, out)
 }
 
-// Makes the text in a buffer that every listing fits into, and copies it to the start of out, if it fits.
-fn listing_by(image: &[u8], text: &mut [u8], out: &mut [u8]) -> Listed
+// Makes the text in a buffer that every listing fits into, and copies it to the start of out, if it fits; answers its length.
+fn listing_by(image: &[u8], text: &mut [u8], out: &mut [u8]) -> Option<usize>
     requires { listing_limit ≤ length text.old }
     ensures { listing_after (listed_reply result) out.new ≡ into (listing_of image.now) out.old }
 {
     let n = listing_text(image, text);
     if out.len() < n {
-        return Listed::TooShort;
+        return None;
     }
-    put_text(out, 0, &text[..n]);
-    Listed::Text(n)
+    Some(put_text(out, 0, &text[..n]))
 }
 
-// Writes the listing to the start of out, if it fits.
-pub fn listing(image: &[u8], out: &mut [u8]) -> Listed
+// Writes the listing to the start of out, if it fits, and answers its length.
+pub fn listing(image: &[u8], out: &mut [u8]) -> Option<usize>
     ensures { listing_after (listed_reply result) out.new ≡ into (listing_of image.now) out.old }
 {
     let mut text = [0u8; 262144];

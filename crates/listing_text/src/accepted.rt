@@ -8,24 +8,27 @@ ghost use Rattle.listing_text.specs.Written.{Taken, Enough};
 
 use crate::lines::{put_head, put_times};
 use crate::signals::put_signals;
-use walk::head::{block_count, signal_count};
+use walk::open::OpenImage;
 use walk_table::{table_in, table_length};
 
 fn put_head_of(image: &[u8], out: &mut [u8]) -> usize
     requires { Taken image.now × Room (head_line (length (image_in image.now).kinds) (length (table_from [] (image_in image.now).blocks)) (length (image_in image.now).blocks)) 0 out.old }
     ensures { Puts (head_line (length (image_in image.now).kinds) (length (table_from [] (image_in image.now).blocks)) (length (image_in image.now).blocks)) 0 out.old result out.new }
 {
-    let signals = signal_count(image) as u64;
-    let times = table_length(image) as u64;
-    put_head(out, 0, signals, times, block_count(image) as u64)
+    let opened = OpenImage { bytes: image };
+    let signals = opened.signal_count() as u64;
+    let times = table_length(opened) as u64;
+    put_head(out, 0, signals, times, opened.block_count() as u64)
 }
 
 fn put_table(image: &[u8], out: &mut [u8], at: usize, times: &mut [u64]) -> usize
     requires { Taken image.now × (2048 ≤ length times.old) × Room (time_lines 0 (table_from [] (image_in image.now).blocks)) at out.old }
     ensures { Puts (time_lines 0 (table_from [] (image_in image.now).blocks)) at out.old result out.new }
 {
-    let n = table_length(image) as usize;
-    table_in(image, times);
+    let opened = OpenImage { bytes: image };
+    let n = table_length(opened) as usize;
+    // Every table fits into times, so none is refused.
+    let _ = table_in(opened, times);
     put_times(out, at, &times[..n])
 }
 

@@ -12,7 +12,7 @@ ghost use Rattle.listing_text.specs.Written.{shown_words, entries_read, entries_
 
 use ascii::write::{put_decimal, put_hex, put_text};
 use entry::length::entry_len;
-use entry_answer::{EntryAnswer, entry_value};
+use entry_answer::entry_value;
 use signal::kind::SignalEncoding;
 use value::real::{Entry, SignalValue};
 use value::states::States;
@@ -31,14 +31,10 @@ fn put_letters(out: &mut [u8], at: usize, symbols: &[u8]) -> usize
     requires { (all_symbols symbols.now ≡ true) × Room (map letter_of symbols.now) at out.old }
     ensures { Puts (map letter_of symbols.now) at out.old result out.new }
 {
-    let mut p = at;
-    let mut i = 0;
-    while i < symbols.len() {
-        out[p] = letter(symbols[i]);
-        p += 1;
-        i += 1;
+    for (i, symbol) in symbols.iter().enumerate() {
+        out[at + i] = letter(*symbol);
     }
-    p
+    at + symbols.len()
 }
 
 // An answered entry, whose symbols stand beside it.
@@ -73,12 +69,12 @@ fn put_content(
     ensures { Puts (content_words (entry_of kind (class_number class) bytes.now)) at out.old result out.new }
 {
     match entry_value(bytes, kind, class, symbols) {
-        EntryAnswer::Value(shown) => {
+        Ok(Some(shown)) => {
             let width = kind.width() as usize;
             put_shown(out, at, shown, &symbols[..width])
         }
-        EntryAnswer::NoEntry => at,
-        EntryAnswer::Refused(_) => at,
+        Ok(None) => at,
+        Err(_) => at,
     }
 }
 
@@ -115,12 +111,10 @@ pub fn put_entries(
     let size = entry_len(kind, class);
     let mut p = at;
     let mut from = 0;
-    let mut i = 0;
-    while i < index.len() {
+    for number in index {
         let to = from + size;
-        p = put_entry(out, p, index[i], &bytes[from..to], kind, class, symbols);
+        p = put_entry(out, p, *number, &bytes[from..to], kind, class, symbols);
         from = to;
-        i += 1;
     }
     p
 }

@@ -43,10 +43,8 @@ pub fn put_times(out: &mut [u8], at: usize, times: &[u64]) -> usize
     ensures { Puts (time_lines 0 times.now) at out.old result out.new }
 {
     let mut p = at;
-    let mut i = 0;
-    while i < times.len() {
-        p = put_time(out, p, i as u64, times[i]);
-        i += 1;
+    for (i, time) in times.iter().enumerate() {
+        p = put_time(out, p, i as u64, *time);
     }
     p
 }

@@ -9,9 +9,8 @@ ghost use Rattle.listing_text.specs.Written.{Taken, Enough};
 
 use crate::entries::put_entries;
 use crate::lines::put_signal_line;
-use loaded::LoadAnswer;
 use loader::load::load_in;
-use walk::head::{kind_at, signal_count};
+use walk::open::OpenImage;
 
 // A signal's line, and a line for each kept entry. Only an absent signal is refused by loading.
 fn put_signal(
@@ -26,21 +25,22 @@ fn put_signal(
     requires { Taken image.now × (signal < length (image_in image.now).kinds) × Enough index.old bytes.old symbols.old × Room (signal_lines signal (kind_at (image_in image.now) signal) (loads signal (image_in image.now).blocks)) at out.old }
     ensures { Puts (signal_lines signal (kind_at (image_in image.now) signal) (loads signal (image_in image.now).blocks)) at out.old result out.new }
 {
-    let kind = kind_at(image, signal);
-    match load_in(image, signal, index, bytes) {
-        LoadAnswer::Loaded(count, class) => {
+    let opened = OpenImage { bytes: image };
+    let kind = opened.kind_at(signal);
+    match load_in(opened, signal, index, bytes) {
+        Ok(loaded) => {
             let p = put_signal_line(
                 out,
                 at,
                 signal as u64,
                 kind,
-                class.number() as u64,
-                count as u64,
+                loaded.class.number() as u64,
+                loaded.count as u64,
             );
-            let n = count as usize;
-            put_entries(out, p, &index[..n], bytes, kind, class, symbols)
+            let n = loaded.count as usize;
+            put_entries(out, p, &index[..n], bytes, kind, loaded.class, symbols)
         }
-        LoadAnswer::Refused(_) => put_signal_line(out, at, signal as u64, kind, 0, 0),
+        Err(_) => put_signal_line(out, at, signal as u64, kind, 0, 0),
     }
 }
 
@@ -56,12 +56,10 @@ pub fn put_signals(
     requires { Taken image.now × Enough index.old bytes.old symbols.old × Room (signals_from (image_in image.now) 0 (image_in image.now).kinds) at out.old }
     ensures { Puts (signals_from (image_in image.now) 0 (image_in image.now).kinds) at out.old result out.new }
 {
-    let signals = signal_count(image);
     let mut p = at;
-    let mut g: u32 = 0;
-    while g < signals {
+    let opened = OpenImage { bytes: image };
+    for g in 0..opened.signal_count() {
         p = put_signal(image, g, out, p, index, bytes, symbols);
-        g += 1;
     }
     p
 }

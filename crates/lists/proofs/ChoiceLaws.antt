@@ -1,12 +1,13 @@
 -- What holds of a value that may be missing, where it is there: said once of a choice and of a chain, and got out again.
 -- Assumes nothing.
 use Prim.Native.Nat.{◌≤◌}
-use mathlib.Core.Logic.{◌⊎◌, inl, inr}
 use mathlib.Core.Path.{◌≡◌, refl, subst}
 use mathlib.Core.Bool.{Bool, true, false, ◌&&◌, ◌||◌}
 use mathlib.Core.List.{List}
 use mathlib.Core.Option.{Option, some, none}
 use native.Mathlib.Omega.{arith}
+use Rattle.std.proofs.Common.{Some, None}
+use Rattle.std.specs.Bool.{then_some}
 use Rattle.lists.specs.Choice.{pick, bind, is_some, or_empty}
 
 abbrev pub Where : {A : Type 0} → (A → Type 0) → Option A → Type 0
@@ -62,12 +63,12 @@ pub pick_same : {A : Type 0} (t : Bool) (x : A) → pick t x x ≡ x
 pick_same true x = refl
 pick_same false x = refl
 
+-- what the code's `then_some` answers
+pub then_some_pick : {A : Type 0} (t : Bool) (x : A) → then_some t x ≡ pick t (Some x) None
+then_some_pick true x = refl
+then_some_pick false x = refl
+
 -- one, or nothing
 pub pick-one : (t : Bool) → pick t 1 0 ≤ 1
 pick-one true = omega arith
 pick-one false = omega arith
-
--- a variable after a test that may set it: A and B are what the two ways know
-pub pick-came : {X A B : Type 0} {x y r : X} (t : Bool) → (A → t ≡ true) → (B → t ≡ false) → (A × (r ≡ x)) ⊎ (B × (r ≡ y)) → r ≡ pick t x y
-pick-came t f g (inl w) = rw (f w.0) w.1
-pick-came t f g (inr w) = rw (g w.0) w.1

@@ -2,6 +2,7 @@ pub mod BytesLaws
 pub mod ChoiceLaws
 pub mod GotLaws
 pub mod LastLaws
+pub mod PartLaws
 pub mod SameLaws
 pub mod SetsLaws
 pub mod SmallLaws

@@ -1,6 +1,7 @@
 -- Document 01, 'Loaded signal' and 'Turned back' (11, 4, 9): the calls that read an image. A refused call changes no lent memory.
 -- Assumes nothing.
-use Rattle.std.specs.Prelude.{ℕ, suc, Bool, ◌||◌, List, [], ◌∷◌, map, length, get_or, ltb, leb, Float}
+use Rattle.std.specs.Prelude.{ℕ, suc, Bool, ◌||◌, List, [], ◌∷◌, map, length, get_or, ltb, leb, Float, Result, Ok, Err}
+use Rattle.std.specs.Prelude as std
 use Rattle.std.proofs.Math.Option.{Option, some, none}
 use Rattle.std.proofs.lemmas.List.Edits.{sets}
 use Rattle.std.specs.Float.{binary64}
@@ -15,12 +16,10 @@ use Rattle.signal.specs.Content.{Content, happened, symbols, bits, symbols_of}
 use Rattle.stream.specs.Entries.{Entry}
 use Rattle.image.specs.Image.{Image}
 use Rattle.codec.specs.Parse.{parse}
-use Rattle.loaded.specs.declared.LoadAnswer.{LoadAnswer}
-use Rattle.loaded.specs.declared.LoadAnswer.TheVariants as load
-use Rattle.loaded.specs.declared.TableAnswer.{TableAnswer}
-use Rattle.loaded.specs.declared.TableAnswer.TheVariants as table
-use Rattle.loaded.specs.declared.CursorAnswer.{CursorAnswer}
-use Rattle.loaded.specs.declared.CursorAnswer.TheVariants as cursor
+use Rattle.refusal.specs.declared.Refusal.{Refusal}
+use Rattle.refusal.specs.Refusal.{refusal_number}
+use Rattle.loaded.specs.declared.Loaded.{Loaded}
+use Rattle.loaded.specs.declared.Found.{Found}
 use Rattle.loaded.specs.Opener.{kind_at}
 use Rattle.loaded.specs.Loading.{Load, table_from, loads, signal_class}
 use Rattle.loaded.specs.EntryBytes.{entries_bytes}
@@ -35,9 +34,9 @@ pub data LoadReply : Type 0 where
   refuse : ℕ → LoadReply
   loaded : (count class : ℕ) → LoadReply
 
-abbrev pub load_reply : LoadAnswer → LoadReply
-load_reply (load.Loaded n c) = loaded n (class_number c)
-load_reply (load.Refused n) = refuse n
+abbrev pub load_reply : Result Loaded Refusal → LoadReply
+load_reply (Ok l) = loaded l.count (class_number l.class)
+load_reply (Err r) = refuse (refusal_number r)
 
 -- the answer, and the outputs afterwards
 pub record LoadAfter : Type 0 where
@@ -75,9 +74,9 @@ pub data TableReply : Type 0 where
   refuse : ℕ → TableReply
   counted : ℕ → TableReply
 
-abbrev pub table_reply : TableAnswer → TableReply
-table_reply (table.Table n) = counted n
-table_reply (table.Refused n) = refuse n
+abbrev pub table_reply : Result ℕ Refusal → TableReply
+table_reply (Ok n) = counted n
+table_reply (Err r) = refuse (refusal_number r)
 
 pub record TableAfter : Type 0 where
   pub reply : TableReply
@@ -130,10 +129,10 @@ pub data CursorReply : Type 0 where
   nothing : CursorReply
   found : (number time : ℕ) → Shown → CursorReply
 
-abbrev pub cursor_reply : CursorAnswer → CursorReply
-cursor_reply (cursor.Found n t e) = found n t (entry_reply e)
-cursor_reply cursor.Nothing = nothing
-cursor_reply (cursor.Refused n) = refuse n
+abbrev pub cursor_reply : Result (std.Option Found) Refusal → CursorReply
+cursor_reply (Ok (std.Some f)) = found f.number f.time (entry_reply f.entry)
+cursor_reply (Ok std.None) = nothing
+cursor_reply (Err r) = refuse (refusal_number r)
 
 pub record CursorAfter : Type 0 where
   pub reply : CursorReply

@@ -15,13 +15,13 @@ use Rattle.stream.specs.Entries.{Entry}
 use Rattle.image.specs.Block.{Block}
 use Rattle.image.specs.Head.{image_limit}
 use Rattle.image.specs.Image.{Image}
-use Rattle.codec.specs.Ends.{end_of}
+use Rattle.std.specs.Prelude as std
 use Rattle.loaded.specs.Opener.{kind_at, block_at, part_at}
 use Rattle.loaded.specs.Loading.{overlap, moved, pushed, Load, load, entries_in, load_block, load_from, loads}
 use Rattle.loaded.specs.EntryBytes.{entries_bytes}
 use Rattle.loaded.proofs.TableLaws.{overlap-both, joined_length}
 use Rattle.loaded.specs.Reader.{index_in}
-use Rattle.walk.specs.Walk.{Opened, image_in, block_place, last_time, shared_times}
+use Rattle.walk.specs.Walk.{Opened, image_in, block_place, last_time, end_held, shared_times}
 use Rattle.walk.proofs.HeadLaws.{head_in}
 use Rattle.walk.proofs.BlockLaws.{blocks-left, here, next-size, any-time}
 use Rattle.walk_table.proofs.TableLaws.{overlap-shared, last-joined}
@@ -57,11 +57,11 @@ held-sizes k c false i b es = (refl, refl)
 held-sizes k c true i b es = (length-sets i 0 (map index_in es), length-sets b 0 (entries_bytes k c es))
 
 -- before block number `number`
-pub record Passing (b : List ℕ) (g c : ℕ) (w : Bool) (index bytes : List ℕ) (number at times : ℕ) (later : Bool) (end : ℕ) (s : Loading) (index' bytes' : List ℕ) : Type 0 where
+pub record Passing (b : List ℕ) (g c : ℕ) (w : Bool) (index bytes : List ℕ) (number at times : ℕ) (end : std.Option ℕ) (s : Loading) (index' bytes' : List ℕ) : Type 0 where
   pub l : Load
   pub rest : load_from g l (drop number (image_in b).blocks) ≡ loads g (image_in b).blocks
   pub size : times ≡ length l.times
-  pub ends : last_time l.times ≡ end_of later end
+  pub ends : last_time l.times ≡ end_held end
   pub early : times ≤ at
   pub few : s.count ≤ at
   pub used : s.used ≤ 4 * at
@@ -69,9 +69,9 @@ pub record Passing (b : List ℕ) (g c : ℕ) (w : Bool) (index bytes : List ℕ
   pub reads : KeptReads (kind_at (image_in b) g) b s.last
   pub same : output_as (kind_at (image_in b) g) b s index' bytes' ≡ holding (kind_at (image_in b) g) c w index bytes l.entries
 
-pub passing-sizes : (b : List ℕ) (g c : ℕ) (w : Bool) (index bytes : List ℕ) (number at times : ℕ) (later : Bool) (end : ℕ) (s : Loading) (index' bytes' : List ℕ)
-    → Passing b g c w index bytes number at times later end s index' bytes' → (length index' ≡ length index) × (length bytes' ≡ length bytes)
-passing-sizes b g c w index bytes number at times later end s index' bytes' p =
+pub passing-sizes : (b : List ℕ) (g c : ℕ) (w : Bool) (index bytes : List ℕ) (number at times : ℕ) (end : std.Option ℕ) (s : Loading) (index' bytes' : List ℕ)
+    → Passing b g c w index bytes number at times end s index' bytes' → (length index' ≡ length index) × (length bytes' ≡ length bytes)
+passing-sizes b g c w index bytes number at times end s index' bytes' p =
     let z = held-sizes (kind_at (image_in b) g) c w index bytes p.l.entries in
     (ap (λ (q : Output). length q.index) p.same ∙ z.0, ap (λ (q : Output). length q.bytes) p.same ∙ z.1)
 
@@ -81,7 +81,7 @@ held-nothing k c false i b = refl
 held-nothing k c true i b = refl
 
 pub passing-first : (b : List ℕ) (g c : ℕ) (w : Bool) (index bytes : List ℕ) (at : ℕ) (s : Loading) → Bytes b → Opened b → at ≡ block_place (image_in b) 0
-    → s ≡ nothing_kept → Passing b g c w index bytes 0 at 0 false 0 s index bytes
+    → s ≡ nothing_kept → Passing b g c w index bytes 0 at 0 std.None s index bytes
 passing-first b g c w index bytes at s y o e z = rw z (record {
   l = load [] [] 0;
   rest = refl;
@@ -95,8 +95,8 @@ passing-first b g c w index bytes at s y o e z = rw z (record {
   same = held-nothing (kind_at (image_in b) g) c w index bytes;
 })
 
-module _ (b : List ℕ) (g c : ℕ) (w : Bool) (index bytes : List ℕ) (number at times : ℕ) (later : Bool) (end : ℕ) (s : Loading) (index' bytes' : List ℕ) (y : Bytes b) (o : Opened b)
-    (p : Passing b g c w index bytes number at times later end s index' bytes') (h : number < length (image_in b).blocks) where
+module _ (b : List ℕ) (g c : ℕ) (w : Bool) (index bytes : List ℕ) (number at times : ℕ) (end : std.Option ℕ) (s : Loading) (index' bytes' : List ℕ) (y : Bytes b) (o : Opened b)
+    (p : Passing b g c w index bytes number at times end s index' bytes') (h : number < length (image_in b).blocks) where
   abbrev x : Image
   x = image_in b
 
@@ -104,10 +104,10 @@ module _ (b : List ℕ) (g c : ℕ) (w : Bool) (index bytes : List ℕ) (number 
   next = block_at x number
 
   -- the times that the table has already
-  overlapping : overlap p.l.times next.times ≡ shared_times (end_of later end) next.times
+  overlapping : overlap p.l.times next.times ≡ shared_times (end_held end) next.times
   overlapping = overlap-shared p.l.times next.times ∙ ap (λ (e : Option ℕ). shared_times e next.times) p.ends
 
-  pub shared-small : (n : ℕ) → n ≡ shared_times (end_of later end) next.times → n ≤ times
+  pub shared-small : (n : ℕ) → n ≡ shared_times (end_held end) next.times → n ≤ times
   shared-small n e = omega (arith, overlapping, p.size, (overlap-both p.l.times next.times).0)
 
   rest-next : load_from g (load_block g p.l next) (drop (suc number) x.blocks) ≡ loads g x.blocks
@@ -126,7 +126,7 @@ module _ (b : List ℕ) (g c : ℕ) (w : Bool) (index bytes : List ℕ) (number 
         → Room w (all_taken (kind_at x g) c w (output_as (kind_at x g) b s index' bytes') (changes_in x number g base)) (length index') (length bytes')
     made-room r =
         let k = kind_at x g in
-        let z = passing-sizes b g c w index bytes number at times later end s index' bytes' p in
+        let z = passing-sizes b g c w index bytes number at times end s index' bytes' p in
         let grown = subst (λ (l : Load). Grows (holding k c w index bytes (load_block g p.l next).entries) (holding k c w index bytes l.entries)) rest-next
         (blocks-grow k c w index bytes g (load_block g p.l next) (drop (suc number) x.blocks)) in
         rw (made, z.0, z.1) (room-first w _ _ (length index) (length bytes) grown r)
@@ -146,7 +146,7 @@ module _ (b : List ℕ) (g c : ℕ) (w : Bool) (index bytes : List ℕ) (number 
       (omega arith, omega arith)
 
   -- with n of its times in the table already
-  module _ (n base : ℕ) (e : n ≡ shared_times (end_of later end) next.times) (f : base ≡ times - n) where
+  module _ (n base : ℕ) (e : n ≡ shared_times (end_held end) next.times) (f : base ≡ times - n) where
     from-base : base ≡ length p.l.times - overlap p.l.times next.times
     from-base = omega (arith, e, f, overlapping, p.size)
 
@@ -160,7 +160,7 @@ module _ (b : List ℕ) (g c : ℕ) (w : Bool) (index bytes : List ℕ) (number 
     pub passing-on : (times' at' end' : ℕ) (s' : Loading) (i j : List ℕ) → times' ≡ base + length next.times → at' ≡ block_place x (suc number) → end' ≡ last_or 0 next.times
         → KeptReads (kind_at x g) b s'.last → s'.count ≤ block_place x (suc number) → s'.used ≤ 4 * block_place x (suc number)
         → output_as (kind_at x g) b s' i j ≡ all_taken (kind_at x g) c w (output_as (kind_at x g) b s index' bytes') (changes_in x number g base)
-        → Passing b g c w index bytes (number + 1) at' times' true end' s' i j
+        → Passing b g c w index bytes (number + 1) at' times' (std.Some end') s' i j
     passing-on times' at' end' s' i j k l u r few used q =
         let m : number + 1 ≡ suc number = omega arith in
         rw m (record {
@@ -176,11 +176,11 @@ module _ (b : List ℕ) (g c : ℕ) (w : Bool) (index bytes : List ℕ) (number 
           same = q ∙ made base from-base;
         })
 
-pub passed : (b : List ℕ) (g c : ℕ) (w : Bool) (index bytes : List ℕ) (number at times : ℕ) (later : Bool) (end : ℕ) (s : Loading) (index' bytes' : List ℕ)
-    → Passing b g c w index bytes number at times later end s index' bytes' → length (image_in b).blocks ≤ number
+pub passed : (b : List ℕ) (g c : ℕ) (w : Bool) (index bytes : List ℕ) (number at times : ℕ) (end : std.Option ℕ) (s : Loading) (index' bytes' : List ℕ)
+    → Passing b g c w index bytes number at times end s index' bytes' → length (image_in b).blocks ≤ number
     → output_as (kind_at (image_in b) g) b s index' bytes' ≡ holding (kind_at (image_in b) g) c w index bytes (loads g (image_in b).blocks).entries
 unfolding load_from
-passed b g c w index bytes number at times later end s index' bytes' p h =
+passed b g c w index bytes number at times end s index' bytes' p h =
     let x = image_in b in
     let none_left : drop number x.blocks ≡ [] = drop_of_length-le x.blocks h in
     let all : p.l ≡ loads g x.blocks = subst (λ (bs : List (Block (List Entry))). load_from g p.l bs ≡ loads g x.blocks) none_left p.rest in

@@ -6,16 +6,17 @@ ghost use Rattle.loaded.specs.Opener.{kind_at};
 ghost use Rattle.loaded.specs.Loading.{loads};
 ghost use Rattle.loaded.specs.EntryBytes.{entries_bytes};
 ghost use Rattle.loaded.specs.Reader.{load_reply, load_after, load_in};
-ghost use Rattle.walk.specs.Walk.{Opened, image_in};
+ghost use Rattle.walk.specs.Open.{image_of};
 ghost use Rattle.loader.specs.Sizes.{too_short, class_answered};
 
-use crate::blocks::load_blocks;
+use crate::every_block::load_blocks;
 use entry::length::entry_len;
-use loaded::LoadAnswer;
+use loaded::Loaded;
 use loader_measure::{least_len, measure_blocks};
+use refusal::Refusal;
 use signal::kind::SignalEncoding;
 use value::states::States;
-use walk::head::kind_at;
+use walk::open::OpenImage;
 
 // Whether so many indices and bytes are too few for so many entries, of so many bytes.
 fn too_short(entries: usize, used: usize, indices: usize, room: usize) -> bool
@@ -40,7 +41,7 @@ fn signal_class(count: u32, class: States) -> States
 // Whether the outputs are too short for a signal's kept entries, of which there are at most `most`. Only where these might not fit, every
 // entry being as long, a pass counts the entries and their bytes; it writes nothing.
 fn lacks_room(
-    image: &[u8],
+    image: OpenImage,
     signal: u32,
     kind: SignalEncoding,
     class: States,
@@ -48,9 +49,9 @@ fn lacks_room(
     index: &mut [u32],
     bytes: &mut [u8],
 ) -> bool
-    requires opened { Opened image.now × (kind ≡ kind_at (image_in image.now) signal) × (class_number class ≡ (loads signal (image_in image.now).blocks).class) }
-    requires image_len_bound { (length (loads signal (image_in image.now).blocks).entries ≤ most) × (most ≤ image_limit) }
-    ensures { (result ≡ too_short (length (loads signal (image_in image.now).blocks).entries) (length (entries_bytes (kind_at (image_in image.now) signal) (class_number class) (loads signal (image_in image.now).blocks).entries)) (length index.old) (length bytes.old)) × (index.new ≡ index.old) × (bytes.new ≡ bytes.old) }
+    requires known { (kind ≡ kind_at (image_of image) signal) × (class_number class ≡ (loads signal (image_of image).blocks).class) }
+    requires image_len_bound { (length (loads signal (image_of image).blocks).entries ≤ most) × (most ≤ image_limit) }
+    ensures { (result ≡ too_short (length (loads signal (image_of image.entry).blocks).entries) (length (entries_bytes (kind_at (image_of image.entry) signal) (class_number class) (loads signal (image_of image.entry).blocks).entries)) (length index.old) (length bytes.old)) × (index.new ≡ index.old) × (bytes.new ≡ bytes.old) }
 {
     let size = entry_len(kind, class);
     if !too_short(most, most * size, index.len(), bytes.len()) {
@@ -67,21 +68,26 @@ fn lacks_room(
 
 // Writes the indices and the bytes of a signal's kept entries to the start of the outputs, and answers their number and the signal's class.
 // Nothing is written where an output is too short.
-pub fn load_in(image: &[u8], signal: u32, index: &mut [u32], bytes: &mut [u8]) -> LoadAnswer
-    requires { Opened image.now }
-    ensures { load_after (load_reply result) index.new bytes.new ≡ load_in (image_in image.now) signal index.old bytes.old }
+pub fn load_in(
+    image: OpenImage,
+    signal: u32,
+    index: &mut [u32],
+    bytes: &mut [u8],
+) -> Result<Loaded, Refusal>
+    ensures { load_after (load_reply result) index.new bytes.new ≡ load_in (image_of image.entry) signal index.old bytes.old }
 {
-    let kind = kind_at(image, signal);
+    let kind = image.kind_at(signal);
     if kind.is_absent() {
-        return LoadAnswer::Refused(4);
+        return Err(Refusal::NoSignal);
     }
     let measured = measure_blocks(image, signal);
-    let class = States::from_number(measured.top);
+    let class = States::from_number(u32::from(measured.top));
     let most = measured.bytes / least_len(kind);
     if lacks_room(image, signal, kind, class, most, index, bytes) {
-        return LoadAnswer::Refused(9);
+        return Err(Refusal::OutputShort);
     }
     let written = load_blocks(image, signal, class, true, index, bytes);
     let count = written.count;
-    LoadAnswer::Loaded(count, signal_class(count, class))
+    let class = signal_class(count, class);
+    Ok(Loaded { count, class })
 }

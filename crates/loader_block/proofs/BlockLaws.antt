@@ -9,8 +9,8 @@ use lib.ListN.{length, take, drop, take-append-drop}
 use Rattle.lists.specs.Bytes.{Bytes}
 use Rattle.signal.specs.declared.kind.SignalEncoding.{SignalEncoding}
 use Rattle.signal.specs.declared.decode.ChangeValue.{ChangeValue}
-use Rattle.stream.specs.declared.read.ReadChange.TheVariants as read
-use Rattle.stream.specs.Answer.{change_at}
+use Rattle.std.specs.Prelude as std
+use Rattle.stream.specs.Answer.{change_at, read_of}
 use Rattle.stream.specs.Entries.{stream_bytes}
 use Rattle.image.specs.Head.{image_limit}
 use Rattle.codec.specs.Valid.{BlockFits}
@@ -113,8 +113,8 @@ module _ (k : SignalEncoding) (b : List ℕ) (number at g c : ℕ) (w : Bool) (b
   -- one change of it
   pub block-turn : (p i : ℕ) (t : Loading) (index' bytes' : List ℕ) (d : ℕ) (v : ChangeValue) (next : ℕ) → (y : Bytes b) → (h : p < to)
       → (x : BlockGoing k b number g c w base from to s index bytes p i t index' bytes')
-      → change_at k b p ≡ read.Change d v next → Turn k b (length (block_at (image_in b) number).times) (top_of (image_in b) number g) p to x.ahead d v next
+      → change_at k b p ≡ read_of d v next → Turn k b (length (block_at (image_in b) number).times) (top_of (image_in b) number g) p to x.ahead d v next
   block-turn p i t index' bytes' d v next y h x f = turn k b _ _ p to y m.few h x.ahead d v next f
 
-  pub block-not-bad : (p i : ℕ) (t : Loading) (index' bytes' : List ℕ) → Bytes b → p < to → BlockGoing k b number g c w base from to s index bytes p i t index' bytes' → change_at k b p ≡ read.Bad → ⊥
+  pub block-not-bad : (p i : ℕ) (t : Loading) (index' bytes' : List ℕ) → Bytes b → p < to → BlockGoing k b number g c w base from to s index bytes p i t index' bytes' → change_at k b p ≡ std.None → ⊥
   block-not-bad p i t index' bytes' y h x f = not-bad k b _ _ p to y m.few h x.ahead f

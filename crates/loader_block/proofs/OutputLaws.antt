@@ -20,7 +20,8 @@ use Rattle.loaded.specs.Reader.{index_in}
 use Rattle.entry_same.specs.Kept.{repeats_kept, kept_content, last_content}
 use Rattle.entry_same.proofs.KeptLaws.{repeats-last, last_more, count-more}
 use Rattle.loader_block.specs.Output.{Output, output, kept, taken, all_taken, Room, output_as, holding}
-use Rattle.entry_same.specs.declared.kept.KeptChange.{KeptChange}
+use Rattle.entry.specs.declared.read.PlacedChange.{PlacedChange}
+use Rattle.std.specs.Prelude as std
 use Rattle.loader_block.specs.declared.Loading.{Loading}
 
 -- ---- one entry more
@@ -137,6 +138,6 @@ module _ (k : SignalEncoding) (c : ℕ) (w : Bool) (o : Output) (i : ℕ) (a : C
       (omega (arith, q.0, ap (λ (p : Output). p.count) s), omega (arith, q.1, ap (λ (p : Output). p.used) s))
 
 -- what the code holds after it
-pub output-of : (k : SignalEncoding) (b : List ℕ) (r : Loading) (n u : ℕ) (l : KeptChange) (i o : List ℕ) → r.count ≡ n → r.used ≡ u → r.last ≡ l
+pub output-of : (k : SignalEncoding) (b : List ℕ) (r : Loading) (n u : ℕ) (l : std.Option PlacedChange) (i o : List ℕ) → r.count ≡ n → r.used ≡ u → r.last ≡ l
     → output_as k b r i o ≡ output n u (kept_content k b l) i o
 output-of k b r n u l i o e f g = rw (e, f, g) refl

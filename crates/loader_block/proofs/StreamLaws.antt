@@ -4,7 +4,6 @@ use Prim.Native.Nat.{ℕ, ◌+◌, ◌-◌, ◌*◌, ◌≤◌, ◌<◌}
 use mathlib.Core.Path.{◌≡◌, refl, sym, ap, ◌∙◌, subst}
 use mathlib.Core.Bool.{Bool}
 use mathlib.Core.List.{List, [], ◌∷◌, ◌++◌, append_assoc}
-use mathlib.Core.Option.{some}
 use native.Mathlib.Omega.{arith}
 use lib.ListN.{length, drop, length-append, length-drop}
 use Rattle.lists.specs.Got.{got}
@@ -13,9 +12,9 @@ use Rattle.value.specs.Class.{class_of_all}
 use Rattle.signal.specs.declared.kind.SignalEncoding.{SignalEncoding}
 use Rattle.signal.specs.declared.decode.ChangeValue.{ChangeValue}
 use Rattle.signal.specs.Content.{symbols_of, ContentFits}
-use Rattle.stream.specs.declared.read.ReadChange.TheVariants as read
+use Rattle.std.specs.Prelude as std
 use Rattle.stream.specs.Stream.{Change, change, change_bytes, read_change}
-use Rattle.stream.specs.Answer.{change_at, read_as}
+use Rattle.stream.specs.Answer.{change_at, read_as, read_of}
 use Rattle.stream.specs.Entries.{Entry, stream_bytes}
 use Rattle.stream.proofs.StreamTrip.{read-written}
 use Rattle.codec.specs.Valid.{EntryFits, EntriesFit}
@@ -69,7 +68,7 @@ module _ (k : SignalEncoding) (b : List ℕ) (n top p to : ℕ) (y : Bytes b) (f
       ∙ read-written k (e.index - prev) e.content (r ++ tail) (omega (arith, f.inside)) f.content
 
   turn_by : (prev least : ℕ) (es : List Entry) (tail : List ℕ) (q : drop p b ≡ stream_bytes k prev es ++ tail) (z : p + length (stream_bytes k prev es) ≡ to)
-      (i : to ≤ length b) (f : EntriesFit k n least top es) (o : prev ≤ least) (d : ℕ) (v : ChangeValue) (next : ℕ) → change_at k b p ≡ read.Change d v next
+      (i : to ≤ length b) (f : EntriesFit k n least top es) (o : prev ≤ least) (d : ℕ) (v : ChangeValue) (next : ℕ) → change_at k b p ≡ read_of d v next
       → Turn k b n top p to (record { prev = prev; least = least; entries = es; tail = tail; bytes = q; size = z; inside = i; fits = f; order = o }) d v next
   unfolding stream_bytes
   turn_by prev least [] tail q z i f o d v next e = absurd (omega arith)
@@ -105,19 +104,19 @@ module _ (k : SignalEncoding) (b : List ℕ) (n top p to : ℕ) (y : Bytes b) (f
         within = omega arith;
       }
 
-  pub turn : (a : Ahead k b n top p to) (d : ℕ) (v : ChangeValue) (next : ℕ) → change_at k b p ≡ read.Change d v next → Turn k b n top p to a d v next
+  pub turn : (a : Ahead k b n top p to) (d : ℕ) (v : ChangeValue) (next : ℕ) → change_at k b p ≡ read_of d v next → Turn k b n top p to a d v next
   turn a d v next e = turn_by a.prev a.least a.entries a.tail a.bytes a.size a.inside a.fits a.order d v next e
 
   never-bad : (prev least : ℕ) (es : List Entry) (tail : List ℕ) → drop p b ≡ stream_bytes k prev es ++ tail → p + length (stream_bytes k prev es) ≡ to
-      → EntriesFit k n least top es → prev ≤ least → change_at k b p ≡ read.Bad → ⊥
+      → EntriesFit k n least top es → prev ≤ least → change_at k b p ≡ std.None → ⊥
   unfolding stream_bytes
   never-bad prev least [] tail q z f o e = omega arith
   never-bad prev least (x ∷ es) tail q z f o e =
       let g = front prev least x es tail q f.0 o in
-      let u : read_as k (length b) (got (change (x.index - prev) x.content) (stream_bytes k x.index es ++ tail)) ≡ read.Bad = ap (read_as k (length b)) (sym g) ∙ e in
+      let u : read_as k (length b) (got (change (x.index - prev) x.content) (stream_bytes k x.index es ++ tail)) ≡ std.None = ap (read_as k (length b)) (sym g) ∙ e in
       let z : ◌≡◌ {A = ℕ} 0 1 = cc in omega arith
 
-  pub not-bad : Ahead k b n top p to → change_at k b p ≡ read.Bad → ⊥
+  pub not-bad : Ahead k b n top p to → change_at k b p ≡ std.None → ⊥
   not-bad a e = never-bad a.prev a.least a.entries a.tail a.bytes a.size a.fits a.order e
 
 -- the entry of a change has at most four times its bytes

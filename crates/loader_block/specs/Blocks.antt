@@ -6,7 +6,7 @@ use Rattle.stream.specs.Entries.{Entry}
 use Rattle.image.specs.Image.{Image}
 use Rattle.loaded.specs.Opener.{kind_at, block_at, part_at}
 use Rattle.loaded.specs.Loading.{entries_in, top_in, moved, loads}
-use Rattle.walk.specs.Walk.{image_in, BlockHere}
+use Rattle.walk.specs.Walk.{image_in}
 use Rattle.loader_block.specs.Output.{Output, all_taken, Room, output_as, holding}
 use Rattle.loader_block.specs.declared.Loading.{Loading}
 
@@ -26,9 +26,9 @@ output_in b g s i o = output_as (kind_at (image_in b) g) b s i o
 abbrev pub block_taken : (image : List ℕ) → (block signal base C : ℕ) → (write : Bool) → Output → Output
 block_taken b n g t c w o = all_taken (kind_at (image_in b) g) c w o (changes_in (image_in b) n g t)
 
--- some block begins there: the class of its changes is at most C, and what they make of an output is within the lent memory
-abbrev pub BlockRoom : (image : List ℕ) → (at signal base C : ℕ) → (write : Bool) → Output → (index bytes : ℕ) → Type 0
-BlockRoom b at g t c w o i m = (n : ℕ) × BlockHere n at b × (top_of (image_in b) n g ≤ c) × Room w (block_taken b n g t c w o) i m
+-- the class of a block's changes is at most C, and what they make of an output is within the lent memory
+abbrev pub BlockRoom : (image : List ℕ) → (block signal base C : ℕ) → (write : Bool) → Output → (index bytes : ℕ) → Type 0
+BlockRoom b n g t c w o i m = (top_of (image_in b) n g ≤ c) × Room w (block_taken b n g t c w o) i m
 
 -- the outputs with all entries that are kept
 abbrev pub all_loaded : (image : List ℕ) → (signal C : ℕ) → (write : Bool) → (index bytes : List ℕ) → Output

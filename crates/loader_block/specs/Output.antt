@@ -2,7 +2,7 @@
 -- change more makes of it, and a list of them.
 -- Laws (proofs/OutputLaws): a list of changes makes of it what `pushed` makes of the kept entries.
 -- Assumes nothing.
-use Rattle.std.specs.Prelude.{ℕ, suc, ◌+◌, ◌≤◌, ◌≡◌, Bool, true, false, List, [], ◌∷◌, map, length, set}
+use Rattle.std.specs.Prelude.{ℕ, suc, ◌+◌, ◌≤◌, ◌≡◌, Bool, true, false, List, [], ◌∷◌, map, length, set, None}
 use Rattle.std.proofs.Math.Option.{Option, some}
 use Rattle.std.proofs.lemmas.List.Edits.{sets}
 use Rattle.lists.specs.Choice.{pick}
@@ -11,7 +11,6 @@ use Rattle.signal.specs.Content.{Content}
 use Rattle.stream.specs.Entries.{Entry}
 use Rattle.loaded.specs.EntryBytes.{entry_bytes, entries_bytes}
 use Rattle.loaded.specs.Reader.{index_in}
-use Rattle.entry_same.specs.declared.kept.KeptChange.TheVariants.{Nothing}
 use Rattle.entry_same.specs.Kept.{repeats_kept, last_content, kept_content}
 use Rattle.loader_block.specs.declared.Loading.{Loading}
 
@@ -48,7 +47,7 @@ Room w o i b = w ≡ true → (o.count ≤ i) × (o.used ≤ b)
 -- ---- what the code holds of it: the last kept change by its place in the image
 
 abbrev pub nothing_kept : Loading
-nothing_kept = record { count = 0; used = 0; last = Nothing }
+nothing_kept = record { count = 0; used = 0; last = None }
 
 abbrev pub output_as : SignalEncoding → (image : List ℕ) → Loading → (index bytes : List ℕ) → Output
 output_as k b s i o = output s.count s.used (kept_content k b s.last) i o

@@ -6,14 +6,13 @@ ghost use Rattle.std.specs.Prelude.{◌≡◌, ◌≤◌};
 ghost use Rattle.image.specs.Head.{image_limit};
 ghost use Rattle.loaded.specs.Opener.{kind_at};
 ghost use Rattle.loaded.specs.Loading.{loads};
-ghost use Rattle.walk.specs.Walk.{Opened, image_in};
+ghost use Rattle.walk.specs.Open.{image_of};
 ghost use Rattle.loader_measure.specs.Least.{least_length, streams_length};
 
 use packed_symbols::bytes_required;
 use signal::kind::SignalEncoding;
-use value::states::{States, larger};
-use walk::block::{first_block, next_block};
-use walk::head::block_count;
+use value::states::States;
+use walk::open::{Block, OpenImage};
 use walk_part::part_in;
 
 // How many bytes a signal's streams have in all blocks, and its largest top class.
@@ -24,21 +23,18 @@ pub struct Measured {
 }
 
 // Adds the blocks up.
-pub fn measure_blocks(image: &[u8], signal: u32) -> Measured
-    requires { Opened image.now }
-    ensures { (result.bytes ≡ streams_length (kind_at (image_in image.now) signal) signal (image_in image.now).blocks) × (result.top ≡ (loads signal (image_in image.now).blocks).class) × (result.bytes ≤ image_limit) }
+pub fn measure_blocks(image: OpenImage, signal: u32) -> Measured
+    ensures { (result.bytes ≡ streams_length (kind_at (image_of image.entry) signal) signal (image_of image.entry).blocks) × (result.top ≡ (loads signal (image_of image.entry).blocks).class) × (result.bytes ≤ image_limit) }
 {
-    let blocks = block_count(image);
-    let mut at = first_block(image);
-    let mut number: u32 = 0;
+    let mut at = image.first_block();
     let mut bytes: usize = 0;
     let mut top: u8 = 0;
-    while number < blocks {
-        let part = part_in(image, at, signal);
+    for number in 0..image.block_count() {
+        let block = Block { image, number, at };
+        let part = part_in(block, signal);
         bytes += part.to - part.from;
-        top = larger(top, part.top);
-        at = next_block(image, at);
-        number += 1;
+        top = top.max(part.top);
+        at = block.end();
     }
     Measured { bytes, top }
 }

@@ -7,7 +7,7 @@ use mathlib.Core.List.{List, [], ◌∷◌, map}
 use lib.ListN.{length}
 use Rattle.numbers.specs.Leb128.{groups, leb_of, read_leb, leb_at}
 use Rattle.numbers.specs.LittleEndian.{le, unle}
-use Rattle.numbers.specs.declared.leb128.Leb128.TheVariants.{Value, Bad}
+use Rattle.std.specs.Prelude.{Some, None}
 
 -- a number and its bytes
 abbrev examples : List (ℕ × List ℕ)
@@ -26,7 +26,7 @@ pub written : map (λ (e : ℕ × List ℕ). leb_of e.0) examples ≡ map (λ (e
 unfolding leb_of groups
 written = refl
 
-pub read : map (λ (e : ℕ × List ℕ). leb_at e.1 0) examples ≡ map (λ (e : ℕ × List ℕ). Value e.0 (length e.1)) examples
+pub read : map (λ (e : ℕ × List ℕ). leb_at e.1 0) examples ≡ map (λ (e : ℕ × List ℕ). Some (e.0, length e.1)) examples
 unfolding read_leb
 read = refl
 
@@ -41,7 +41,7 @@ refused =
     ∷ (0x80 ∷ 0x80 ∷ 0x80 ∷ 0x80 ∷ 0x80 ∷ 0x01 ∷ [])
     ∷ []
 
-pub not-read : map (λ (s : List ℕ). leb_at s 0) refused ≡ map (λ (s : List ℕ). Bad) refused
+pub not-read : map (λ (s : List ℕ). leb_at s 0) refused ≡ map (λ (s : List ℕ). None) refused
 unfolding read_leb
 not-read = refl
 

@@ -14,7 +14,7 @@ use lib.Seq.{drop-cons}
 use lib.Dec.{ltb}
 use Rattle.lists.specs.Choice.{pick}
 use Rattle.numbers.specs.Leb128.{groups, leb_of, above, read_leb}
-use Rattle.numbers.specs.declared.leb128.Leb128.TheVariants.{Value, Bad}
+use Rattle.std.specs.Prelude.{Some, None}
 
 groups-small : (k v : ℕ) → v < 128 → groups k v ≡ v ∷ []
 unfolding groups
@@ -64,26 +64,30 @@ pub length-leb : (v : ℕ) → length (leb_of v) ≤ 5
 unfolding leb_of
 length-leb v = (length-groups 4 v).1
 
+-- one byte more than the rest has
+pub length-more : (n v : ℕ) → 128 ≤ v → v < 2 ^ 32 → length (leb_of (v / 128)) ≡ n → length (leb_of v) ≡ suc n
+length-more n v h b e = ap length (leb-big v h b) ∙ ap suc e
+
 -- nothing is read in no bytes, nor past the end
-pub read-zero : (at : ℕ) (s : List ℕ) → read_leb 0 at s ≡ Bad
+pub read-zero : (at : ℕ) (s : List ℕ) → read_leb 0 at s ≡ None
 unfolding read_leb
 read-zero at s = refl
 
-pub read-end : (k at : ℕ) (s : List ℕ) → length s ≤ at → read_leb k at (drop at s) ≡ Bad
+pub read-end : (k at : ℕ) (s : List ℕ) → length s ≤ at → read_leb k at (drop at s) ≡ None
 read-end k at s h = rw (drop_of_length-le s h) (none k)
   where
-    none : (k : ℕ) → read_leb k at [] ≡ Bad
+    none : (k : ℕ) → read_leb k at [] ≡ None
     none zero = unfold read_leb in refl
     none (suc k) = unfold read_leb in refl
 
 -- what is read where a byte stands
 pub read_byte : (k at b : ℕ) (s : List ℕ) → 0 < k
-    → read_leb k at (b ∷ s) ≡ pick (ltb b 128) (Value b (at + 1)) (above b (read_leb (k - 1) (at + 1) s))
+    → read_leb k at (b ∷ s) ≡ pick (ltb b 128) (Some (b, at + 1)) (above b (read_leb (k - 1) (at + 1) s))
 unfolding read_leb
 read_byte zero at b s h = absurd (omega arith)
 read_byte (suc k) at b s h = simp sub-one
 
 pub read_step : (k at : ℕ) (s : List ℕ) → 0 < k → at < length s
     → read_leb k at (drop at s)
-    ≡ pick (ltb (get_or s at 0) 128) (Value (get_or s at 0) (at + 1)) (above (get_or s at 0) (read_leb (k - 1) (at + 1) (drop (at + 1) s)))
+    ≡ pick (ltb (get_or s at 0) 128) (Some (get_or s at 0, at + 1)) (above (get_or s at 0) (read_leb (k - 1) (at + 1) (drop (at + 1) s)))
 read_step k at s h l = rw (drop-cons s at 0) (read_byte k at (get_or s at 0) (drop (suc at) s) h ∙ simp add-one)

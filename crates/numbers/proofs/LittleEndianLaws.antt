@@ -1,26 +1,16 @@
 -- The bytes of a number of w bytes and the number of w bytes are inverse, and what one byte more changes: by induction on the width or
 -- the bytes.
 -- Assumes nothing.
-use Prim.Native.Nat.{ℕ, zero, suc, ◌+◌, ◌-◌, ◌*◌, ◌/◌, ◌%◌, ◌^◌, ◌≤◌, ◌<◌}
+use Prim.Native.Nat.{ℕ, zero, suc, ◌+◌, ◌*◌, ◌/◌, ◌%◌, ◌^◌, ◌≤◌, ◌<◌}
 use mathlib.Core.Path.{◌≡◌, refl, ap}
 use mathlib.Core.List.{List, [], ◌∷◌}
-use native.Mathlib.Nat.{pow-suc, pow-le-pow_right, lt_of_lt_of_le}
-use native.Mathlib.Numerals.{sub-one}
+use native.Mathlib.Nat.{pow-suc}
 use native.Mathlib.Omega.{arith}
-use lib.ListN.{length, get_or, take, drop}
-use lib.Seq.{drop-cons}
+use lib.ListN.{length, take, drop, length-take, length-drop}
+use Rattle.std.specs.Int.{w32, w64, to_le_bytes, from_le_bytes}
 use Rattle.lists.specs.Bytes.{Bytes}
-use Rattle.lists.proofs.BytesLaws.{tail-bytes, drop-bytes}
+use Rattle.lists.proofs.BytesLaws.{tail-bytes}
 use Rattle.numbers.specs.LittleEndian.{le, unle}
-
-pub le-none : (v : ℕ) → le 0 v ≡ []
-unfolding le
-le-none v = refl
-
-pub le-more : (w v : ℕ) → 0 < w → le w v ≡ v % 256 ∷ le (w - 1) (v / 256)
-unfolding le
-le-more zero v h = absurd (omega arith)
-le-more (suc w) v h = simp sub-one
 
 pub length-le : (w v : ℕ) → length (le w v) ≡ w
 unfolding le
@@ -40,11 +30,6 @@ unle-lt zero s h = omega arith
 unle-lt (suc n) [] h = rw pow-suc (omega (arith, unle-lt n [] h))
 unle-lt (suc n) (b ∷ s) h = rw pow-suc (omega (arith, unle-lt n s (tail-bytes b s h), h 0))
 
--- the number of one byte more
-pub unle-more : (n at : ℕ) (s : List ℕ) → at < length s → unle (take (suc n) (drop at s)) ≡ get_or s at 0 + 256 * unle (take n (drop (suc at) s))
-unfolding unle
-unle-more n at s h = rw (drop-cons s at 0) refl
-
 -- the other direction of the round trip: the bytes of the number of w bytes
 pub le-unle : (s : List ℕ) → Bytes s → le (length s) (unle s) ≡ s
 unfolding le unle
@@ -54,17 +39,52 @@ le-unle (b ∷ s) h =
     let r : (b + 256 * unle s) % 256 ≡ b = omega (arith, h 0) in
     rw (q, r, le-unle s (tail-bytes b s h)) refl
 
-pub unle-none : (s : List ℕ) → unle (take 0 s) ≡ 0
+-- what std writes and reads
+pub written_4 : (v : ℕ) → to_le_bytes w32 v ≡ le 4 v
+unfolding le
+written_4 v =
+    let b : v / 256 ^ 2 % 256 ≡ v / 256 / 256 % 256 = omega arith in
+    let c : v / 256 ^ 3 % 256 ≡ v / 256 / 256 / 256 % 256 = omega arith in
+    rw (b, c) refl
+
+pub written_8 : (v : ℕ) → to_le_bytes w64 v ≡ le 8 v
+unfolding le
+written_8 v =
+    let b : v / 256 ^ 2 % 256 ≡ v / 256 / 256 % 256 = omega arith in
+    let c : v / 256 ^ 3 % 256 ≡ v / 256 / 256 / 256 % 256 = omega arith in
+    let d : v / 256 ^ 4 % 256 ≡ v / 256 / 256 / 256 / 256 % 256 = omega arith in
+    let e : v / 256 ^ 5 % 256 ≡ v / 256 / 256 / 256 / 256 / 256 % 256 = omega arith in
+    let f : v / 256 ^ 6 % 256 ≡ v / 256 / 256 / 256 / 256 / 256 / 256 % 256 = omega arith in
+    let g : v / 256 ^ 7 % 256 ≡ v / 256 / 256 / 256 / 256 / 256 / 256 / 256 % 256 = omega arith in
+    rw (b, c, d, e, f, g) refl
+
+unle-4 : (s : List ℕ) → length s ≡ 4 → from_le_bytes w32 s ≡ unle s
 unfolding unle
-unle-none s = refl
+unle-4 [] l = absurd (omega arith)
+unle-4 (a ∷ []) l = absurd (omega arith)
+unle-4 (a ∷ b ∷ []) l = absurd (omega arith)
+unle-4 (a ∷ b ∷ c ∷ []) l = absurd (omega arith)
+unle-4 (a ∷ b ∷ c ∷ d ∷ []) l = omega arith
+unle-4 (a ∷ b ∷ c ∷ d ∷ x ∷ s) l = absurd (omega arith)
 
-pub part-fits : (n at : ℕ) (s : List ℕ) → Bytes s → n ≤ 7 → unle (take n (drop at s)) < 2 ^ 56
-part-fits n at s h k = lt_of_lt_of_le (unle-lt n (drop at s) (drop-bytes at s h)) (pow-le-pow_right (omega arith) k)
+unle-8 : (s : List ℕ) → length s ≡ 8 → from_le_bytes w64 s ≡ unle s
+unfolding unle
+unle-8 [] l = absurd (omega arith)
+unle-8 (a ∷ []) l = absurd (omega arith)
+unle-8 (a ∷ b ∷ []) l = absurd (omega arith)
+unle-8 (a ∷ b ∷ c ∷ []) l = absurd (omega arith)
+unle-8 (a ∷ b ∷ c ∷ d ∷ []) l = absurd (omega arith)
+unle-8 (a ∷ b ∷ c ∷ d ∷ e ∷ []) l = absurd (omega arith)
+unle-8 (a ∷ b ∷ c ∷ d ∷ e ∷ f ∷ []) l = absurd (omega arith)
+unle-8 (a ∷ b ∷ c ∷ d ∷ e ∷ f ∷ g ∷ []) l = absurd (omega arith)
+unle-8 (a ∷ b ∷ c ∷ d ∷ e ∷ f ∷ g ∷ h ∷ []) l = omega arith
+unle-8 (a ∷ b ∷ c ∷ d ∷ e ∷ f ∷ g ∷ h ∷ x ∷ s) l = absurd (omega arith)
 
--- a turn of the loop from the last byte to the first
-pub unle-back : (w i at : ℕ) (s : List ℕ) → 0 < i → i ≤ w → at + w ≤ length s
-    → unle (take (w - i) (drop (at + i) s)) * 256 + get_or s (at + (i - 1)) 0 ≡ unle (take (w - (i - 1)) (drop (at + (i - 1)) s))
-unle-back w i at s h k l =
-    let e1 : w - (i - 1) ≡ suc (w - i) = omega arith in
-    let e2 : suc (at + (i - 1)) ≡ at + i = omega arith in
-    rw (e1, unle-more (w - i) (at + (i - 1)) s (omega arith), e2) (omega arith)
+part : (n at : ℕ) (s : List ℕ) → at + n ≤ length s → length (take n (drop at s)) ≡ n
+part n at s h = rw (length-take n (drop at s), length-drop at s) (omega arith)
+
+pub read_4 : (at : ℕ) (s : List ℕ) → at + 4 ≤ length s → from_le_bytes w32 (take 4 (drop at s)) ≡ unle (take 4 (drop at s))
+read_4 at s h = unle-4 (take 4 (drop at s)) (part 4 at s h)
+
+pub read_8 : (at : ℕ) (s : List ℕ) → at + 8 ≤ length s → from_le_bytes w64 (take 8 (drop at s)) ≡ unle (take 8 (drop at s))
+read_8 at s h = unle-8 (take 8 (drop at s)) (part 8 at s h)

@@ -1,7 +1,7 @@
 -- The kinds of a head, read at a place.
 -- Assumes nothing.
 use Prim.Native.Nat.{ℕ, zero, suc, ◌+◌, ◌-◌, ◌*◌, ◌≤◌, ◌<◌}
-use mathlib.Core.Path.{◌≡◌, refl, sym, ap, ap₂, ◌∙◌}
+use mathlib.Core.Path.{◌≡◌, refl, sym, ap, ◌∙◌}
 use mathlib.Core.Bool.{Bool, true, false, ◌&&◌}
 use mathlib.Core.List.{List, [], ◌∷◌}
 use mathlib.Core.Option.{Option, some, none}
@@ -127,9 +127,3 @@ known-end n i s at e = go (n - i) (omega arith)
 
     go : (c : ℕ) → c ≡ 0 → known_at c s (at + 4 * i) ≡ true
     go c q = ap (λ (c : ℕ). known_at c s (at + 4 * i)) q ∙ none_left (at + 4 * i)
-
-pub known-first : (n : ℕ) (s : List ℕ) (at : ℕ) → known_at (n - 0) s (at + 4 * 0) ≡ known_at n s at
-known-first n s at =
-    let a : n - 0 ≡ n = omega arith in
-    let b : at + 4 * 0 ≡ at = omega arith in
-    ap₂ (λ (c p : ℕ). known_at c s p) a b

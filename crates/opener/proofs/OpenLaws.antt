@@ -6,7 +6,7 @@ use mathlib.Core.Bool.{Bool, true, false, ◌&&◌}
 use mathlib.Core.List.{List}
 use mathlib.Core.Option.{none}
 use borrow.Author.Tests.{le-leb, lt-leb, leb-true}
-use lib.Dec.{leb, eqb}
+use lib.Dec.{leb}
 use lib.ListN.{length}
 use Rattle.lists.specs.Bytes.{Bytes}
 use Rattle.lists.specs.Choice.{is_some}
@@ -19,35 +19,6 @@ use Rattle.opener.specs.Opening.{number_in, numbers_fit, known_at, is_head, bloc
 use Rattle.opener.proofs.HeadLaws.{walk_is}
 
 -- ---- the numbers
-
-module _ (n S limit total : ℕ) where
-  pub limit-low : limit < 2 → false ≡ numbers_fit n S limit total
-  unfolding numbers_fit
-  limit-low h = rw (lt-leb 2 limit h) refl
-
-  module _ (a : 2 ≤ limit) where
-    pub limit-high : 65535 < limit → false ≡ numbers_fit n S limit total
-    unfolding numbers_fit
-    limit-high h = rw (le-leb 2 limit a, lt-leb limit 65535 h) refl
-
-    module _ (b : limit ≤ 65535) where
-      pub signals-high : 65536 < S → false ≡ numbers_fit n S limit total
-      unfolding numbers_fit
-      signals-high h = rw (le-leb 2 limit a, le-leb limit 65535 b, lt-leb S 65536 h) refl
-
-      module _ (c : S ≤ 65536) where
-        pub total-high : 1073741824 < total → false ≡ numbers_fit n S limit total
-        unfolding numbers_fit
-        total-high h = rw (le-leb 2 limit a, le-leb limit 65535 b, le-leb S 65536 c, lt-leb total image_limit h) refl
-
-        module _ (d : total ≤ 1073741824) where
-          pub head-long : n < 16 + 4 * S → false ≡ numbers_fit n S limit total
-          unfolding numbers_fit
-          head-long h = rw (le-leb 2 limit a, le-leb limit 65535 b, le-leb S 65536 c, le-leb total image_limit d, lt-leb (head_size S) n h) refl
-
-          pub total-is : 16 + 4 * S ≤ n → eqb total n ≡ numbers_fit n S limit total
-          unfolding numbers_fit
-          total-is h = rw (le-leb 2 limit a, le-leb limit 65535 b, le-leb S 65536 c, le-leb total image_limit d, le-leb (head_size S) n h) refl
 
 -- what the numbers then say
 pub record Sizes (n S limit : ℕ) : Type 0 where

@@ -12,7 +12,7 @@ ghost use Rattle.loaded.specs.Opener.{open_of};
 ghost use Rattle.parts.specs.Parts.{kinds_at};
 ghost use Rattle.opener.specs.Opening.{numbers_fit, known_at, is_head, blocks_fill};
 
-use blocks::{NextBlock, block_at};
+use blocks::block_at;
 use image::kind::kind_from;
 use image::layout::{
     HEAD_BLOCKS, HEAD_KINDS, HEAD_LIMIT, HEAD_SIGNALS, HEAD_TOTAL, head_size, kind_place,
@@ -22,25 +22,14 @@ use numbers::little_endian::get_u32;
 use signal::kind::known_kind;
 
 // Whether the numbers of a head are those of an image of so many bytes: B, S and the total as a start takes them.
+#[tactic(auto, unfolding(crate::specs::Opening::numbers_fit))]
 fn numbers_fit(len: usize, signals: usize, limit: u32, total: usize) -> bool
     ensures { result ≡ numbers_fit len signals limit total }
 {
-    if limit < MIN_LIMIT {
-        return false;
-    }
-    if MAX_LIMIT < limit {
-        return false;
-    }
-    if (MAX_SIGNALS as usize) < signals {
-        return false;
-    }
-    if MAX_TOTAL < total {
-        return false;
-    }
-    if len < head_size(signals) {
-        return false;
-    }
-    total == len
+    MIN_LIMIT <= limit
+        && (limit <= MAX_LIMIT
+            && (signals <= MAX_SIGNALS as usize
+                && (total <= MAX_TOTAL && (head_size(signals) <= len && total == len))))
 }
 
 // Whether all of the kinds in a head are known.
@@ -48,12 +37,10 @@ fn kinds_known(image: &[u8], signals: usize) -> bool
     requires { head_size signals ≤ length image.now }
     ensures { result ≡ known_at signals image.now 16 }
 {
-    let mut i = 0;
-    while i < signals {
+    for i in 0..signals {
         if !known_kind(kind_from(get_u32(image, kind_place(i)))) {
             return false;
         }
-        i += 1;
     }
     true
 }
@@ -80,21 +67,13 @@ fn blocks_fill(image: &[u8], signals: usize, limit: u32, number: u32) -> bool
     ensures { result ≡ blocks_fill limit (kinds_at signals image.now 16) number none image.now (head_size signals) }
 {
     let mut at = head_size(signals);
-    let mut left = number;
-    let mut later = false;
-    let mut end: u64 = 0;
-    while 0 < left {
-        left -= 1;
-        match block_at(image, at, signals, limit, later, end) {
-            NextBlock::At(next, last) => {
-                at = next;
-                end = last;
-                later = true;
-            }
-            NextBlock::Wrong => {
-                return false;
-            }
-        }
+    let mut end = None;
+    for _ in 0..number {
+        let Some(block) = block_at(image, at, signals, limit, end) else {
+            return false;
+        };
+        at = block.next;
+        end = Some(block.last);
     }
     at == image.len()
 }

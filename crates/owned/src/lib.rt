@@ -22,35 +22,29 @@ pub struct Kept {
     pub records: [SignalRecord; 2],
 }
 
-fn keep(outcome: Outcome, records: [SignalRecord; 2]) -> Kept
-    ensures { (result.outcome ≡ outcome) × (result.records ≡ records) }
-{
-    Kept { outcome, records }
-}
-
 // A start. The work buffer is not lent: [] stands for it.
-pub fn start<'t, 'i>(
+pub fn start(
     state: Encoder,
     settings: Settings,
     kept: [SignalRecord; 2],
-    times: &'t [u64],
-    image: &'i mut [u8],
+    times: &[u64],
+    image: &mut [u8],
 ) -> Kept
     ensures { left result.outcome result.records times.now [] image.new
         ≡ start_of settings (memory state kept times.now [] image.old) }
 {
     let mut records = kept;
     let outcome = start::start(state, settings, &mut records, times, image);
-    keep(outcome, records)
+    Kept { outcome, records }
 }
 
 // A time.
-pub fn time_change<'t, 'w, 'i>(
+pub fn time_change(
     state: Encoder,
     kept: [SignalRecord; 2],
-    times: &'t mut [u64],
-    work: &'w [u8],
-    image: &'i mut [u8],
+    times: &mut [u64],
+    work: &[u8],
+    image: &mut [u8],
     stamp: Stamp,
 ) -> Kept
     ensures { left result.outcome result.records times.new work.now image.new
@@ -58,37 +52,37 @@ pub fn time_change<'t, 'w, 'i>(
 {
     let mut records = kept;
     let outcome = time::time_change(state, &mut records, times, work, image, stamp);
-    keep(outcome, records)
+    Kept { outcome, records }
 }
 
 // A VCD value of a signal.
-pub fn vcd_value_change<'t, 'w, 'i, 'b>(
+pub fn vcd_value_change(
     state: Encoder,
     kept: [SignalRecord; 2],
-    times: &'t [u64],
-    work: &'w mut [u8],
-    image: &'i [u8],
+    times: &[u64],
+    work: &mut [u8],
+    image: &[u8],
     target: Target,
-    value: &'b [u8],
+    value: &[u8],
 ) -> Kept
     ensures { left result.outcome result.records times.now work.new image.now
         ≡ change_of (memory state kept times.now work.old image.now) target.sender target.signal.0 (vcd value.now) }
 {
     let mut records = kept;
     let outcome = changes::vcd_value_change(state, &mut records, times, work, image, target, value);
-    keep(outcome, records)
+    Kept { outcome, records }
 }
 
 // A raw value of a signal, by the class that it claims and its bytes.
-pub fn raw_class_change<'t, 'w, 'i, 'b>(
+pub fn raw_class_change(
     state: Encoder,
     kept: [SignalRecord; 2],
-    times: &'t [u64],
-    work: &'w mut [u8],
-    image: &'i [u8],
+    times: &[u64],
+    work: &mut [u8],
+    image: &[u8],
     target: Target,
     claim: States,
-    bytes: &'b [u8],
+    bytes: &[u8],
 ) -> Kept
     ensures { left result.outcome result.records times.now work.new image.now
         ≡ change_of (memory state kept times.now work.old image.now) target.sender target.signal.0 (raw (class_number claim) bytes.now) }
@@ -104,19 +98,19 @@ pub fn raw_class_change<'t, 'w, 'i, 'b>(
         claim,
         bytes,
     );
-    keep(outcome, records)
+    Kept { outcome, records }
 }
 
 // A raw value of a signal, by its claim's number and its bytes.
-pub fn raw_claim_change<'t, 'w, 'i, 'b>(
+pub fn raw_claim_change(
     state: Encoder,
     kept: [SignalRecord; 2],
-    times: &'t [u64],
-    work: &'w mut [u8],
-    image: &'i [u8],
+    times: &[u64],
+    work: &mut [u8],
+    image: &[u8],
     target: Target,
     claim: u32,
-    bytes: &'b [u8],
+    bytes: &[u8],
 ) -> Kept
     ensures { left result.outcome result.records times.now work.new image.now
         ≡ change_of (memory state kept times.now work.old image.now) target.sender target.signal.0 (raw claim bytes.now) }
@@ -132,16 +126,16 @@ pub fn raw_claim_change<'t, 'w, 'i, 'b>(
         claim,
         bytes,
     );
-    keep(outcome, records)
+    Kept { outcome, records }
 }
 
 // A real of a signal, by the 64 bits of its f64.
-pub fn real_change<'t, 'w, 'i>(
+pub fn real_change(
     state: Encoder,
     kept: [SignalRecord; 2],
-    times: &'t [u64],
-    work: &'w mut [u8],
-    image: &'i [u8],
+    times: &[u64],
+    work: &mut [u8],
+    image: &[u8],
     target: Target,
     bits: u64,
 ) -> Kept
@@ -150,21 +144,21 @@ pub fn real_change<'t, 'w, 'i>(
 {
     let mut records = kept;
     let outcome = changes::real_change(state, &mut records, times, work, image, target, bits);
-    keep(outcome, records)
+    Kept { outcome, records }
 }
 
 // A finish.
-pub fn finish<'t, 'w, 'i>(
+pub fn finish(
     state: Encoder,
     kept: [SignalRecord; 2],
-    times: &'t mut [u64],
-    work: &'w [u8],
-    image: &'i mut [u8],
+    times: &mut [u64],
+    work: &[u8],
+    image: &mut [u8],
 ) -> Kept
     ensures { left result.outcome result.records times.new work.now image.new
         ≡ finish_of (memory state kept times.old work.now image.old) }
 {
     let mut records = kept;
     let outcome = finish::finish(state, &mut records, times, work, image);
-    keep(outcome, records)
+    Kept { outcome, records }
 }

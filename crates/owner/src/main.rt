@@ -10,123 +10,74 @@ mod two_records;
 
 use calls::perform;
 use line::hex::put_hex;
-use owned::Kept;
-use recording::SignalRecord;
+use recording::{Encoder, SignalRecord};
 use sheet::answer::print_made;
-use sheet::run::{
-    BOTH, CALL, FINISH, IMAGE, Run, START, TIMES, WORK, flag, fresh_run, given_of, probes_of,
-    put_outcome, state_of, take_line,
-};
-use sheet::{lent_bytes, lent_numbers, line_end, value_digits};
+use sheet::run::{Call, Run};
+use sheet::{is_line_feed, lent, value_digits};
 use std::io;
 use std::io::Write;
-use text::{before, between, read_full};
+use text::{before, read_full};
 use two_records::{names_one, no_records, records_for};
 
-// A start finds records of its kinds, any other call those of the call before.
-fn begun(run: &Run, line: &[u8], records: [SignalRecord; 2]) -> [SignalRecord; 2] {
-    if run[CALL] == START {
-        return records_for(line, probes_of(run));
-    }
-    records
-}
-
-// The records after a call; the run holds the rest of its outcome.
-fn keep(run: &mut Run, kept: Kept) -> [SignalRecord; 2] {
-    let outcome = kept.outcome;
-    let records = kept.records;
-    put_outcome(run, outcome);
-    run[BOTH] = flag(names_one(records));
-    records
-}
-
-// Makes the call that the run holds on what is lent.
-fn make(
-    run: &mut Run,
-    records: [SignalRecord; 2],
-    value: &[u8],
-    times: &mut [u64],
-    work: &mut [u8],
-    image: &mut [u8],
-) -> [SignalRecord; 2] {
-    let state = state_of(&*run);
-    let given = given_of(&*run);
-    let t = run[TIMES];
-    let w = run[WORK];
-    let i = run[IMAGE];
-    let kept = perform(
-        run[CALL],
-        given,
-        value,
-        state,
-        records,
-        lent_numbers(times, t),
-        lent_bytes(work, w),
-        lent_bytes(image, i),
-    );
-    keep(run, kept)
-}
-
-// The records that the program owns.
-#[derive(Clone, Copy)]
+// The memory that the program owns.
+#[derive(Drop)]
 struct Owned {
     records: [SignalRecord; 2],
+    times: [u64; 4],
+    work: [u8; 128],
+    image: [u8; 128],
 }
 
-// Makes the call of a line, if it has one, and answers it.
+// Makes a call on what is lent, and answers it. A start finds records of its kinds, any other call those of the call before.
 fn take_call<W: Write>(
     to: &mut W,
     run: &mut Run,
+    call: Call,
     line: &[u8],
-    held: Owned,
-    times: &mut [u64],
-    work: &mut [u8],
-    image: &mut [u8],
-) -> io::Result<Owned> {
-    if FINISH < run[CALL] {
-        return Ok(held);
-    }
-    let records = held.records;
-    let found = begun(&*run, line, records);
-    let mut space = [0u8; 16];
-    let n = put_hex(&mut space, value_digits(&*run, line));
-    let left = make(run, found, before(&space, n), times, work, image);
-    print_made(to, &*run, false, &*image)?;
-    Ok(Owned { records: left })
-}
-
-fn unset() -> Owned {
-    let records = no_records();
-    Owned { records }
-}
-
-fn take_lines<W: Write>(
-    to: &mut W,
-    run: &mut Run,
-    sheet: &[u8],
-    times: &mut [u64],
-    work: &mut [u8],
-    image: &mut [u8],
+    memory: &mut Owned,
 ) -> io::Result<()> {
-    let mut held = unset();
-    let mut at = 0;
-    while at < sheet.len() {
-        let end = line_end(sheet, at);
-        let line = between(sheet, at, end);
-        at = end + 1;
-        take_line(run, line);
-        held = take_call(to, run, line, held, times, work, image)?;
+    if let Call::Start(_) = call {
+        let found = records_for(line, &run.probes);
+        memory.records = found;
     }
-    Ok(())
+    let mut space = [0u8; 16];
+    let n = put_hex(&mut space, value_digits(call, line));
+    let held = memory.records;
+    let kept = perform(
+        call,
+        before(&space, n),
+        Encoder::from(run.state),
+        held,
+        lent(&mut memory.times, run.lent.times),
+        lent(&mut memory.work, run.lent.work),
+        lent(&mut memory.image, run.lent.image),
+    );
+    let left = kept.records;
+    memory.records = left;
+    run.both = names_one(left);
+    run.keep(kept.outcome);
+    print_made(to, run, kept.outcome.answer, false, &memory.image)
 }
 
 // Makes the calls of a sheet in memory of its own.
 fn take_sheet<W: Write>(to: &mut W, sheet: &[u8]) -> io::Result<()> {
-    let mut run = fresh_run(4, 128, 128);
-    let mut times = [0u64; 4];
-    let mut work = [0u8; 128];
-    let mut image = [0u8; 128];
-    take_lines(to, &mut run, sheet, &mut times, &mut work, &mut image)
+    let mut run = Run::fresh(4, 128, 128);
+    let records = no_records();
+    let times = [0u64; 4];
+    let work = [0u8; 128];
+    let image = [0u8; 128];
+    let mut memory = Owned {
+        records,
+        times,
+        work,
+        image,
+    };
+    for line in sheet.split(is_line_feed) {
+        if let Ok(Some(call)) = run.take_line(line) {
+            take_call(to, &mut run, call, line, &mut memory)?;
+        }
+    }
+    Ok(())
 }
 
 fn main(rt: HostRuntime) -> io::Result<()> {

@@ -32,10 +32,5 @@ pub fn records_for(line: &[u8], probes: &[u64]) -> [SignalRecord; 2] {
 
 // A record names probe 1.
 pub fn names_one(records: [SignalRecord; 2]) -> bool {
-    let first = records[0];
-    let second = records[1];
-    if first.probe == 1 {
-        return true;
-    }
-    second.probe == 1
+    records.iter().any(|r| r.probe == 1)
 }

@@ -18,7 +18,7 @@ use Rattle.lists.proofs.BytesLaws.{tail-bytes}
 use Rattle.lists.proofs.ChoiceLaws.{both_hold}
 use Rattle.value.specs.Class.{bits_of, class_of, class_of_all, all_symbols, min_states, largest_class}
 use Rattle.value.specs.declared.states.States.TheVariants.{Two}
-use Rattle.value.specs.declared.states.MaybeStates.TheVariants.{Some}
+use Rattle.std.proofs.Common.{Some}
 use Rattle.value.proofs.ClassLaws.{by-class, least-found, two-found}
 use Rattle.packed.specs.Packed.{number_of, digit_at, digits, per_byte, packed_length, packed, unpacked, top_clear}
 

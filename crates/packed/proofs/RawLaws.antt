@@ -14,9 +14,9 @@ use Rattle.lists.specs.Choice.{pick}
 use Rattle.value.specs.Class.{states_of, class_of_all, all_symbols, min_states}
 use Rattle.value.specs.Change.{change_of}
 use Rattle.value.specs.declared.states.States.{States}
-use Rattle.value.specs.declared.states.MaybeStates.TheVariants.{Some, None}
+use Rattle.std.proofs.Common.{Some, None}
 use Rattle.value.specs.declared.symbol.Bit.{Bit}
-use Rattle.value.specs.declared.change.BitVecChange.TheVariants.{SingleBit, MultiBit, Bad}
+use Rattle.value.specs.declared.change.BitVecChange.TheVariants.{SingleBit, MultiBit}
 use Rattle.packed.specs.Packed.{packed_length, packed, unpacked}
 use Rattle.packed.specs.Raw.{checked, last_of, raw_symbols}
 use Rattle.packed.proofs.PackedLaws.{length-packed, unpacked-packed}
@@ -39,14 +39,14 @@ pub checked-some : (s : List ℕ) (m : States) → min_states s ≡ Some m → (
 unfolding min_states
 checked-some s m e = some-by s (states_of (class_of_all s)) m (all_symbols s) e
 
-pub change-zero : (w : ℕ) (o : Option (List ℕ)) → w ≡ 0 → change_of w o ≡ Bad
+pub change-zero : (w : ℕ) (o : Option (List ℕ)) → w ≡ 0 → change_of w o ≡ None
 change-zero w none e = refl
 change-zero w (some s) e = rw e refl
 
-pub change-single : (w : ℕ) (s : List ℕ) (x : Bit) → w ≡ 1 → x.0 ≡ get_or s 0 0 → change_of w (some s) ≡ SingleBit x
+pub change-single : (w : ℕ) (s : List ℕ) (x : Bit) → w ≡ 1 → x.0 ≡ get_or s 0 0 → change_of w (some s) ≡ Some (SingleBit x)
 change-single w s x e f = rw (e, ← f) refl
 
-pub change-multi : (w : ℕ) (s : List ℕ) → (w ≡ 0 → ⊥) → (w ≡ 1 → ⊥) → change_of w (some s) ≡ MultiBit (states_of (class_of_all s))
+pub change-multi : (w : ℕ) (s : List ℕ) → (w ≡ 0 → ⊥) → (w ≡ 1 → ⊥) → change_of w (some s) ≡ Some (MultiBit (states_of (class_of_all s)))
 change-multi zero s a b = absurd (a refl)
 change-multi (suc zero) s a b = absurd (b refl)
 change-multi (suc (suc w)) s a b = refl

@@ -12,7 +12,7 @@ use lib.Pow.{pow_pos, shr-shr}
 use Rattle.lists.specs.Bytes.{Bytes}
 use Rattle.value.specs.Class.{bits_of, symbol_class, largest_class}
 use Rattle.packed.specs.Packed.{number_of, digit_at, digits, per_byte, packed_length, unpacked, top_clear}
-use Rattle.packed.proofs.PackedLaws.{digits_mod, byte_full, byte_at}
+use Rattle.packed.proofs.PackedLaws.{digits_mod, byte_full, byte_at, bits-class}
 
 -- ---- digits of b bits
 
@@ -42,15 +42,18 @@ class_low b k r x h =
 
 -- ---- the bytes of a class's symbols
 
--- a byte of four symbols, and one of two
-pub four-in : (x : ℕ) → largest_class (digits 2 4 x)
-    ≡ max (symbol_class (x / 64 % 4)) (max (symbol_class (x / 16 % 4)) (max (symbol_class (x / 4 % 4)) (symbol_class (x % 4))))
-unfolding digits largest_class
-four-in x = rw (div-one x, max-zero (symbol_class (x % 4))) refl
+-- a byte of eight symbols of one bit, of four of two and of two of four
+pub two_in : (x : ℕ) → largest_class (digits 1 8 x) ≡ 0
+two_in x = bits-class 8 x
 
-pub nine-in : (x : ℕ) → largest_class (digits 4 2 x) ≡ max (symbol_class (x / 16 % 16)) (symbol_class (x % 16))
+pub four_in : (x : ℕ) → largest_class (digits 2 4 x)
+    ≡ max (max (max (symbol_class (x / 64 % 4)) (symbol_class (x / 16 % 4))) (symbol_class (x / 4 % 4))) (symbol_class (x % 4))
 unfolding digits largest_class
-nine-in x = rw (div-one x, max-zero (symbol_class (x % 16))) refl
+four_in x = rw (div-one x) (omega arith)
+
+pub nine_in : (x : ℕ) → largest_class (digits 4 2 x) ≡ max (symbol_class (x / 16 % 16)) (symbol_class (x % 16))
+unfolding digits largest_class
+nine_in x = rw (div-one x, max-zero (symbol_class (x % 16))) refl
 
 -- the largest class of the n lowest symbols of a number
 abbrev pub class_among : (class n v : ℕ) → ℕ

@@ -9,22 +9,21 @@ ghost use Rattle.lists.specs.Choice.{pick};
 ghost use Rattle.value.specs.Class.{class_number, bits_of, largest_class, min_states};
 ghost use Rattle.packed.specs.Packed.{number_of, digits, per_byte, unpacked, packed_length, top_clear};
 
-use numbers::wide;
-use value::states::{MaybeStates, States, larger, states_or_none, symbol_class};
+use value::states::{States, states_or_none, symbol_class};
 
 // The largest class of a byte's symbols.
+#[tactic(auto, using(crate::proofs::ByteLaws::two_in, crate::proofs::ByteLaws::four_in, crate::proofs::ByteLaws::nine_in))]
 fn class_in(x: u8, states: States) -> u8
     ensures { result ≡ largest_class (digits (bits_of (class_number states)) (per_byte (class_number states)) x) }
 {
     match states {
         // a symbol of one bit is 0 or 1
         States::Two => 0,
-        States::Four => {
-            let last_two = larger(symbol_class(x / 4 % 4), symbol_class(x % 4));
-            let last_three = larger(symbol_class(x / 16 % 4), last_two);
-            larger(symbol_class(x / 64 % 4), last_three)
-        }
-        States::Nine => larger(symbol_class(x / 16 % 16), symbol_class(x % 16)),
+        States::Four => symbol_class(x / 64 % 4)
+            .max(symbol_class(x / 16 % 4))
+            .max(symbol_class(x / 4 % 4))
+            .max(symbol_class(x % 4)),
+        States::Nine => symbol_class(x / 16 % 16).max(symbol_class(x % 16)),
     }
 }
 
@@ -33,7 +32,7 @@ fn class_low(x: u8, bits: u64, states: States) -> u8
     requires { bits < 8 }
     ensures { result ≡ largest_class (digits (bits_of (class_number states)) (per_byte (class_number states)) (x % 2 ^ bits)) }
 {
-    class_in(x % (1u8 << (bits as u32)), states)
+    class_in(x % (1 << (bits as u32)), states)
 }
 
 // The largest class of the symbols in the bytes from a place on, all of whose bits are symbols' or zero.
@@ -42,11 +41,9 @@ pub fn class_from(bytes: &[u8], from: usize, states: States) -> u8
     ensures { result ≡ largest_class (digits (bits_of (class_number states)) ((length bytes.now - from) * per_byte (class_number states)) (number_of 8 bytes.now)) }
 {
     let mut class: u8 = 0;
-    let mut i = from;
     // a turn is the same for every byte, so the compiler takes many at a time
-    while i < bytes.len() {
-        class = larger(class, class_in(bytes[i], states));
-        i += 1;
+    for &byte in &bytes[from..] {
+        class = class.max(class_in(byte, states));
     }
     class
 }
@@ -56,26 +53,26 @@ fn class_of(bytes: &[u8], width: u32, states: States) -> u8
     requires { packed_length width (class_number states) ≤ length bytes.now }
     ensures { result ≡ largest_class (unpacked width (class_number states) bytes.now) }
 {
-    let bits = width as u64 * states.bits();
+    let bits = u64::from(width) * states.bits();
     let used = bits % 8;
     let whole = bytes.len() - (bits / 8) as usize;
     let class = class_from(bytes, whole, states);
     if used == 0 {
         return class;
     }
-    larger(class_low(bytes[whole - 1], used, states), class)
+    class_low(bytes[whole - 1], used, states).max(class)
 }
 
 // The class of a packed value's symbols; none where one of them is above 8.
-pub fn find_min_states(bytes: &[u8], width: u32, states: States) -> MaybeStates
+pub fn find_min_states(bytes: &[u8], width: u32, states: States) -> Option<States>
     requires { packed_length width (class_number states) ≤ length bytes.now }
     ensures { result ≡ min_states (unpacked width (class_number states) bytes.now) }
 {
-    // symbols of one bit are 0 or 1, whatever the bytes hold
-    if states.number() == 0 {
-        return MaybeStates::Some(States::Two);
+    match states {
+        // symbols of one bit are 0 or 1, whatever the bytes hold
+        States::Two => Some(States::Two),
+        States::Four | States::Nine => states_or_none(class_of(bytes, width, states)),
     }
-    states_or_none(class_of(bytes, width, states))
 }
 
 // One above the largest first byte with so many bits of symbols; 0 means all eight.
@@ -83,10 +80,7 @@ fn first_byte_limit(bits: u64) -> u32
     requires { bits < 8 }
     ensures { result ≡ pick (eqb bits 0) 256 (2 ^ bits) }
 {
-    if bits == 0 {
-        return 256;
-    }
-    1u32 << (bits as u32)
+    if bits == 0 { 256 } else { 1 << (bits as u32) }
 }
 
 // Whether the bits above the symbols of a packed value are zero.
@@ -94,6 +88,6 @@ pub fn top_clear(bytes: &[u8], width: u32, states: States) -> bool
     requires { (0 < width) × (length bytes.now ≡ packed_length width (class_number states)) }
     ensures { result ≡ top_clear width (class_number states) bytes.now }
 {
-    let used = width as u64 * states.bits() % 8;
-    wide(bytes[0]) < first_byte_limit(used)
+    let used = u64::from(width) * states.bits() % 8;
+    u32::from(bytes[0]) < first_byte_limit(used)
 }

@@ -12,47 +12,40 @@ ghost use Rattle.value.specs.Change.{change_of};
 use packed_class::find_min_states;
 use packed_symbols::{bytes_required, get_bit};
 use value::change::BitVecChange;
-use value::states::{MaybeStates, States};
+use value::states::States;
 
 // The bytes of a raw value that count: the last ones.
 pub fn raw_part(value: &[u8], count: usize) -> &[u8]
     requires { count ≤ length value.now }
     ensures { result.now ≡ last_of count value.now }
 {
-    let start = value.len() - count;
-    &value[start..]
+    &value[value.len() - count..]
 }
 
 // What packed symbols say to a vector of a width.
-fn decode_packed(width: u32, states: States, part: &[u8]) -> BitVecChange
+fn decode_packed(width: u32, states: States, part: &[u8]) -> Option<BitVecChange>
     requires { packed_length width (class_number states) ≤ length part.now }
     ensures { result ≡ change_of width (checked (unpacked width (class_number states) part.now)) }
 {
-    match find_min_states(part, width, states) {
-        MaybeStates::None => BitVecChange::Bad,
-        MaybeStates::Some(least) => {
-            if width == 0 {
-                return BitVecChange::Bad;
-            }
-            if width == 1 {
-                return BitVecChange::SingleBit(get_bit(part, states, 0));
-            }
-            BitVecChange::MultiBit(least)
-        }
+    let least = find_min_states(part, width, states)?;
+    match width {
+        0 => None,
+        1 => Some(BitVecChange::SingleBit(get_bit(part, states, 0))),
+        _ => Some(BitVecChange::MultiBit(least)),
     }
 }
 
 // What a raw value that claims a class says to a vector of a width.
-pub fn decode_raw_change(width: u32, claim: u32, value: &[u8]) -> BitVecChange
+pub fn decode_raw_change(width: u32, claim: u32, value: &[u8]) -> Option<BitVecChange>
     ensures { result ≡ change_of width (raw_symbols width claim value.now) }
 {
     if 2 < claim {
-        return BitVecChange::Bad;
+        return None;
     }
-    let states = States::from_class(claim);
+    let states = States::from_number(claim);
     let count = bytes_required(states, width);
     if value.len() < count {
-        return BitVecChange::Bad;
+        return None;
     }
     decode_packed(width, states, raw_part(value, count))
 }

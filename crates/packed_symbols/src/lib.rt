@@ -9,7 +9,6 @@ ghost use Rattle.std.proofs.lemmas.List.Edits.{sets};
 ghost use Rattle.value.specs.Class.{class_number, bits_of};
 ghost use Rattle.packed.specs.Packed.{number_of, digit_at, unpacked, packed_length};
 
-use numbers::wide;
 use value::states::States;
 use value::symbol::Bit;
 
@@ -18,9 +17,9 @@ pub fn bytes_required(states: States, width: u32) -> usize
     ensures { result ≡ packed_length width (class_number states) }
 {
     match states {
-        States::Two => (width as usize + 7) / 8,
-        States::Four => (width as usize + 3) / 4,
-        States::Nine => (width as usize + 1) / 2,
+        States::Two => (width as usize).div_ceil(8),
+        States::Four => (width as usize).div_ceil(4),
+        States::Nine => (width as usize).div_ceil(2),
     }
 }
 
@@ -40,9 +39,9 @@ pub fn get_bit(bytes: &[u8], states: States, place: u32) -> Bit
     requires { place * bits_of (class_number states) / 8 < length bytes.now }
     ensures { result.0 ≡ digit_at (bits_of (class_number states)) place (number_of 8 bytes.now) }
 {
-    let at = place as u64 * states.bits();
+    let at = u64::from(place) * states.bits();
     let byte = bytes[bytes.len() - 1 - (at / 8) as usize];
-    Bit(lowest(wide(byte) >> ((at % 8) as u32), states))
+    Bit(lowest(u32::from(byte) >> ((at % 8) as u32), states))
 }
 
 // Writes the symbols of a packed value, a byte each and leftmost first, to the start of out.
@@ -50,11 +49,7 @@ pub fn unpack(out: &mut [u8], bytes: &[u8], width: u32, states: States)
     requires { (width ≤ length out.old) × (packed_length width (class_number states) ≤ length bytes.now) }
     ensures { out.new ≡ sets out.old 0 (unpacked width (class_number states) bytes.now) }
 {
-    let mut i: u32 = 0;
-    while i < width {
-        let bit = get_bit(bytes, states, width - 1 - i);
-        let at = i as usize;
-        out[at] = bit.0;
-        i += 1;
+    for i in 0..width {
+        out[i as usize] = get_bit(bytes, states, width - 1 - i).0;
     }
 }

@@ -129,6 +129,23 @@ module _ (v : ℕ) (l : List ℕ) (at n : ℕ) where
       let step : sets out o (digits 8 left v) ≡ sets (set out o (digit_at 8 (left - 1) v)) (suc o) (digits 8 (left - 1) v) = ap (λ (m : ℕ). sets out o (digits 8 m v)) e in
       (omega arith, simp length-set w.1, omega arith, rw (add-one o, d) (sym step ∙ w.3))
 
+  -- the same at an index, where i of them are written
+  pub written-step : (out : List ℕ) (i : ℕ) {y : ℕ} → i < n → Written v l at n out (at + i) (n - i) → y ≡ digit_at 8 (n - 1 - i) v
+      → Written v l at n (set out (at + i) y) (at + (i + 1)) (n - (i + 1))
+  written-step out i {y} h w d =
+      let e : at + i + 1 ≡ at + (i + 1) = omega arith in
+      let f : n - i - 1 ≡ n - (i + 1) = omega arith in
+      let k : n - 1 - i ≡ n - i - 1 = omega arith in
+      rw (e, f) at (written-more out (at + i) (n - i) (omega arith) w (rw k at d))
+
+  -- the same where those that are left are counted down
+  pub written-down : (out : List ℕ) (left : ℕ) {y : ℕ} → 0 < left → Written v l at n out (at + (n - left)) left → y ≡ digit_at 8 (left - 1) v
+      → Written v l at n (set out (at + (n - 1 - (left - 1))) y) (at + (n - (left - 1))) (left - 1)
+  written-down out left {y} h w d =
+      let e : at + (n - left) + 1 ≡ at + (n - (left - 1)) = omega (arith, w.0) in
+      let f : at + (n - left) ≡ at + (n - 1 - (left - 1)) = omega (arith, w.0) in
+      rw f at (rw e at (written-more out (at + (n - left)) left h w d))
+
   pub written_all : (out : List ℕ) (o : ℕ) {left : ℕ} → left ≤ 0 → Written v l at n out o left → (o ≡ at + n) × (out ≡ sets l at (digits 8 n v))
   unfolding digits
   written_all out o {left} h w = let e : left ≡ 0 = omega arith in (omega arith, rw e at w.3)

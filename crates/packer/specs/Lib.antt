@@ -1,2 +1,3 @@
 pub mod Notation
 pub mod Number
+pub mod Given

@@ -2,13 +2,15 @@
 // 'Symbol and value'.
 //
 // Here stand the definitions, specs/Notation.antt (which symbols) and specs/Number.antt (the number of which the packed bytes are the digits), with
-// their laws. The code is in `packer_copy`, `packer_letters` and `packer_convert`, and in `packer_pack`, which calls them.
+// their laws. What gives the symbols of a notation is a `Source` (src/source.rt): a text, in `packer_letters`, or a packed value, in
+// `packer_convert`. `packer_pack` packs from any source.
 #![tactic(auto)]
+
+pub mod source;
 
 ghost use Rattle.std.specs.Prelude.{◌≡◌, ◌+◌, ◌*◌, ◌^◌, ◌<◌};
 ghost use Rattle.value.specs.Class.{class_number, bits_of};
 
-use numbers::wide;
 use value::states::States;
 use value::symbol::Bit;
 
@@ -25,8 +27,8 @@ pub fn pushed(working: u32, states: States, symbol: Bit) -> u32
     ensures { result ≡ working * 2 ^ bits_of (class_number states) + symbol.0 }
 {
     match states {
-        States::Two => working * 2 + wide(symbol.0),
-        States::Four => working * 4 + wide(symbol.0),
-        States::Nine => working * 16 + wide(symbol.0),
+        States::Two => working * 2 + u32::from(symbol.0),
+        States::Four => working * 4 + u32::from(symbol.0),
+        States::Nine => working * 16 + u32::from(symbol.0),
     }
 }

@@ -1,19 +1,15 @@
-// The symbols of a vector given as VCD text: the one at a place, extended to the left, and the last bytes, whose symbols all stand in the text, by
-// a loop that has nothing to ask. Document 01, 'Symbol and value', after the end of wellen's vcd.rs; the left extension is IEEE 1364's, and
-// document 02's (h). The contracts cite specs/Vcd.antt of the crate vcd, and specs/Number.antt of packer.
+// The symbols of a vector given as VCD text: the one at a place, extended to the left, and the one of a letter, where the letters' class is known.
+// Document 01, 'Symbol and value', after the end of wellen's vcd.rs; the left extension is IEEE 1364's, and document 02's (h). The contracts cite
+// specs/Vcd.antt of the crate vcd.
 #![tactic(auto)]
 
-ghost use Rattle.std.specs.Prelude.{◌≡◌, true, ◌+◌, ◌*◌, ◌^◌, ◌≤◌, ◌<◌, length, get_or};
-ghost use Rattle.std.proofs.lemmas.List.Edits.{sets};
+ghost use Rattle.std.specs.Prelude.{◌≡◌, true, ◌^◌, ◌<◌, get_or};
 ghost use Rattle.lists.specs.Choice.{is_some, or_empty};
 ghost use Rattle.value.specs.Class.{class_number, bits_of};
 ghost use Rattle.value.specs.Symbol.{symbol_of, or_number};
 ghost use Rattle.vcd.specs.Vcd.{text_symbols};
-ghost use Rattle.packed.specs.Packed.{per_byte, digit_at, digits};
-ghost use Rattle.packer.specs.Number.{number_in, symbols_at, Held};
 
-use numbers::wide;
-use packer::{Notation, pushed};
+use packer::source::Source;
 use value::states::States;
 use value::symbol::Bit;
 
@@ -32,7 +28,7 @@ fn letter_symbol(letter: u8, states: States) -> Bit
         States::Two => Bit(letter % 2),
         States::Four => Bit(letter / 64 * 2 + letter / 2 % 2 + letter % 2),
         States::Nine => {
-            let place = wide(letter) * 11 / 2 % 16;
+            let place = u32::from(letter) * 11 / 2 % 16;
             let number = (NINE_SYMBOLS >> (place * 4)) % 16;
             Bit(number as u8)
         }
@@ -57,55 +53,31 @@ pub fn extended_symbol(text: &[u8], width: u32, place: u32) -> Bit
     first
 }
 
-// So many symbols of a text, with so many after them. The width is the vector's, of which the contract speaks.
-fn text_symbols(text: &[u8], width: u32, after: usize, count: usize, states: States) -> u32
-    requires held { Held Notation.Ascii width (class_number states) text.now }
-    requires count_in_bounds { (after + count ≤ length text.now) × (count * bits_of (class_number states) ≤ 8) }
-    ensures { result ≡ symbols_at (bits_of (class_number states)) after count (number_in (class_number states) Notation.Ascii width text.now) }
-{
-    let mut working: u32 = 0;
-    let mut i = count;
-    while 0 < i {
-        i -= 1;
-        let letter = text[text.len() - 1 - after - i];
-        working = pushed(working, states, letter_symbol(letter, states));
-    }
-    working
+// A text, for a vector of a width.
+#[derive(Clone, Copy)]
+pub struct Text<'a> {
+    pub letters: &'a [u8],
+    pub width: u32,
 }
 
-// The byte of a text that so many bytes follow, where all of its symbols stand in the text. The count is written out for each class, so
-// that the loop of `text_symbols` unrolls.
-fn text_byte(text: &[u8], width: u32, after: usize, states: States) -> u8
-    requires held { Held Notation.Ascii width (class_number states) text.now }
-    requires states_in_bounds { after * per_byte (class_number states) + per_byte (class_number states) ≤ length text.now }
-    ensures { result ≡ digit_at 8 after (number_in (class_number states) Notation.Ascii width text.now) }
-{
-    match states {
-        States::Two => text_symbols(text, width, after * 8, 8, States::Two) as u8,
-        States::Four => text_symbols(text, width, after * 4, 4, States::Four) as u8,
-        States::Nine => text_symbols(text, width, after * 2, 2, States::Nine) as u8,
-    }
-}
+impl<'a> Source for Text<'a> {
+    ghost use Rattle.packer.specs.declared.Notation.TheVariants.{Ascii};
 
-// Writes the last whole bytes of a text, and answers the place after them.
-pub fn text_bytes(
-    out: &mut [u8],
-    at: usize,
-    text: &[u8],
-    width: u32,
-    whole: usize,
-    states: States,
-) -> usize
-    requires held { Held Notation.Ascii width (class_number states) text.now }
-    requires states_in_bounds { (whole * per_byte (class_number states) ≤ length text.now) × (at + whole ≤ length out.old) }
-    ensures { (result ≡ at + whole) × (out.new ≡ sets out.old at (digits 8 whole (number_in (class_number states) Notation.Ascii width text.now))) }
-{
-    let mut o = at;
-    let mut left = whole;
-    while 0 < left {
-        left -= 1;
-        out[o] = text_byte(text, width, left, states);
-        o += 1;
+    ghost given = { λ text. record { notation = Ascii; width = text.width; bytes = text.letters.now } };
+
+    fn width(&self) -> u32 {
+        self.width
     }
-    o
+
+    fn standing(&self) -> usize {
+        self.letters.len()
+    }
+
+    fn symbol(&self, place: u32) -> Bit {
+        extended_symbol(self.letters, self.width, place)
+    }
+
+    fn standing_symbol(&self, after: usize, i: usize, states: States) -> Bit {
+        letter_symbol(self.letters[self.letters.len() - 1 - after - i], states)
+    }
 }

@@ -1,6 +1,6 @@
 -- A part by tests on its bytes.
 -- Assumes nothing.
-use Prim.Native.Nat.{ℕ, zero, suc, ◌-◌, ◌≤◌, ◌<◌}
+use Prim.Native.Nat.{ℕ, ◌-◌, ◌≤◌, ◌<◌}
 use mathlib.Core.Path.{◌≡◌, refl, sym, ap, ap₂, ◌∙◌}
 use mathlib.Core.Bool.{Bool, true, false, ◌&&◌}
 use mathlib.Core.List.{List, [], ◌∷◌}
@@ -13,7 +13,6 @@ use lib.Seq.{take-length}
 use Rattle.lists.specs.Choice.{pick, bind, is_some}
 use Rattle.lists.specs.Got.{Got, bad, got}
 use Rattle.signal.specs.declared.kind.SignalEncoding.{SignalEncoding}
-use Rattle.signal.specs.declared.kind.SignalEncoding.TheVariants.{BitVector}
 use Rattle.signal.specs.Kind.{top_limit}
 use Rattle.stream.specs.Entries.{Entry}
 use Rattle.image.specs.Block.{Part, part}
@@ -87,9 +86,3 @@ module _ (k : SignalEncoding) (n : ℕ) where
   part-all s x y t j h e f b q d =
       q ∙ ap (is_stream k n x) (ap (λ (j : ℕ). take j (drop 1 s)) (d ∙ sym (length-drop 1 s)) ∙ take-length (drop 1 s))
       ∙ sym (by_first s x h e ∙ ap (λ (u : Bool). u && is_stream k n x (drop 1 s)) (ap (leb x) (sym f) ∙ le-leb x y b))
-
--- the largest top class by the kind
-module _ (k : SignalEncoding) where
-  pub limit-vector : (w : ℕ) → k ≡ BitVector w → (w ≡ 0 → ⊥) → 2 ≡ top_limit k
-  limit-vector zero e z = absurd (z refl)
-  limit-vector (suc w) e z = rw e refl

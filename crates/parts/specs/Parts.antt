@@ -1,7 +1,7 @@
 -- The parts of a block as the code finds them, from the last signal to the first.
 -- Assumes nothing.
-use Rattle.std.specs.Prelude.{ℕ, zero, suc, ◌+◌, ◌-◌, Bool, false, List, [], ◌∷◌, leb, ltb, eqb, take, drop}
-use Rattle.std.proofs.Math.Option.{Option, some, none}
+use Rattle.std.specs.Prelude.{ℕ, zero, suc, ◌+◌, ◌-◌, Bool, false, List, [], ◌∷◌, leb, ltb, eqb, take, drop, Option, Some, None}
+use Rattle.std.proofs.Math.Option as math
 use Rattle.lists.specs.Choice.{pick, bind, is_some}
 use Rattle.numbers.specs.LittleEndian.{unle}
 use Rattle.signal.specs.declared.kind.SignalEncoding.{SignalEncoding}
@@ -10,27 +10,25 @@ use Rattle.stream.specs.Entries.{Entry}
 use Rattle.image.specs.Block.{Part, part}
 use Rattle.image.specs.Head.{kind_from}
 use Rattle.codec.specs.Walk.{walk_stream}
-use Rattle.parts.specs.declared.PartStart.{PartStart}
-use Rattle.parts.specs.declared.PartStart.TheVariants.{From, Wrong}
 
 -- the part that takes up all bytes
-unfoldable pub part_in : SignalEncoding → (n : ℕ) → List ℕ → Option (Part (List Entry))
-part_in k n [] = none
-part_in k n (x ∷ r) = pick (leb x (top_limit k)) (bind ((walk_stream k n x).read r) (λ l. some (part x l))) none
+unfoldable pub part_in : SignalEncoding → (n : ℕ) → List ℕ → math.Option (Part (List Entry))
+part_in k n [] = math.none
+part_in k n (x ∷ r) = pick (leb x (top_limit k)) (bind ((walk_stream k n x).read r) (λ l. math.some (part x l))) math.none
 
 -- parts from a place of the data on, and the bytes after them
 pub data Parts : Type 0 where
   ill : Parts
-  parts : (from : ℕ) → List (Option (Part (List Entry))) → (rest : List ℕ) → Parts
+  parts : (from : ℕ) → List (math.Option (Part (List Entry))) → (rest : List ℕ) → Parts
 
-abbrev pub add_part : Option (Part (List Entry)) → (from : ℕ) → List (Option (Part (List Entry))) → List ℕ → Parts
-add_part none a ps r = ill
-add_part (some p) a ps r = parts a (some p ∷ ps) r
+abbrev pub add_part : math.Option (Part (List Entry)) → (from : ℕ) → List (math.Option (Part (List Entry))) → List ℕ → Parts
+add_part math.none a ps r = ill
+add_part (math.some p) a ps r = parts a (math.some p ∷ ps) r
 
 -- one signal more, in front: its kind and its stored offset
 abbrev pub placed : (d : List ℕ) (n : ℕ) → SignalEncoding → (offset : ℕ) → Parts → Parts
 placed d n k zero ill = ill
-placed d n k zero (parts e ps r) = parts e (none ∷ ps) r
+placed d n k zero (parts e ps r) = parts e (math.none ∷ ps) r
 placed d n k (suc a) ill = ill
 placed d n k (suc a) (parts e ps r) = pick (ltb a e) (add_part (part_in k n (take (e - a) (drop a d))) a ps r) ill
 
@@ -43,17 +41,17 @@ parts_from d m n (k ∷ ks) (o ∷ os) = placed d n k o (parts_from d m n ks os)
 
 -- ---- the code's answers
 
-abbrev pub start_of : Parts → PartStart
-start_of ill = Wrong
-start_of (parts e ps r) = From e
+abbrev pub start_of : Parts → Option ℕ
+start_of ill = None
+start_of (parts e ps r) = Some e
 
-unfoldable pub one_part : (d : List ℕ) (n : ℕ) → SignalEncoding → (offset from : ℕ) → PartStart
-one_part d n k zero e = From e
-one_part d n k (suc a) e = pick (ltb a e) (pick (is_some (part_in k n (take (e - a) (drop a d)))) (From a) Wrong) Wrong
+unfoldable pub one_part : (d : List ℕ) (n : ℕ) → SignalEncoding → (offset from : ℕ) → Option ℕ
+one_part d n k zero e = Some e
+one_part d n k (suc a) e = pick (ltb a e) (pick (is_some (part_in k n (take (e - a) (drop a d)))) (Some a) None) None
 
-abbrev pub at_zero : PartStart → Bool
-at_zero Wrong = false
-at_zero (From e) = eqb e 0
+abbrev pub at_zero : Option ℕ → Bool
+at_zero None = false
+at_zero (Some e) = eqb e 0
 
 unfoldable pub are_parts : (d : List ℕ) (m n : ℕ) → List SignalEncoding → (offsets : List ℕ) → Bool
 are_parts d m n ks os = at_zero (start_of (parts_from d m n ks os))

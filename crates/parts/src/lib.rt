@@ -16,13 +16,6 @@ use numbers::little_endian::get_u32;
 use reading::changes::is_stream;
 use signal::kind::SignalEncoding;
 
-// Where the parts of the signals read so far begin, or no parts.
-#[derive(Clone, Copy)]
-pub enum PartStart {
-    From(usize),
-    Wrong,
-}
-
 // The largest top class of a kind: 0 for events and reals.
 fn top_limit(kind: SignalEncoding) -> u8
     ensures { result ≡ top_limit kind }
@@ -46,7 +39,7 @@ fn is_part(s: &[u8], kind: SignalEncoding, times: u32) -> bool
     is_stream(&s[1..], kind, times, top)
 }
 
-// A signal's part, in front of parts that begin at `from` in the data at `base`.
+// Where the parts begin with a signal's part in front of those that begin at `from` in the data at `base`, if it is one.
 fn one_part(
     s: &[u8],
     base: usize,
@@ -54,22 +47,23 @@ fn one_part(
     offset: SignalDataOffset,
     from: usize,
     times: u32,
-) -> PartStart
+) -> Option<usize>
     requires { (base + from ≤ length s.now) × (times ≤ 65535) }
     ensures { result ≡ one_part (drop base s.now) times kind offset.0 from }
 {
     let stored = offset.0 as usize;
     if stored == 0 {
-        return PartStart::From(from);
+        return Some(from);
     }
     if from < stored {
-        return PartStart::Wrong;
+        return None;
     }
     let start = stored - 1;
     if is_part(&s[base + start..base + from], kind, times) {
-        return PartStart::From(start);
+        Some(start)
+    } else {
+        None
     }
-    PartStart::Wrong
 }
 
 // Whether the parts of a block are right: kinds at `kinds`, offsets at `offsets`, n bytes of data at `base`.
@@ -86,19 +80,13 @@ pub fn are_parts(
     ensures { result ≡ are_parts (drop base s.now) n times (kinds_at count s.now kinds) (uints 4 count s.now offsets) }
 {
     let mut from = n;
-    let mut i = count;
-    while 0 < i {
-        i -= 1;
+    for i in (0..count).rev() {
         let kind = kind_from(get_u32(s, kinds + 4 * i));
         let offset = SignalDataOffset(get_u32(s, offsets + 4 * i));
-        match one_part(s, base, kind, offset, from, times) {
-            PartStart::From(start) => {
-                from = start;
-            }
-            PartStart::Wrong => {
-                return false;
-            }
-        }
+        let Some(start) = one_part(s, base, kind, offset, from, times) else {
+            return false;
+        };
+        from = start;
     }
     from == 0
 }

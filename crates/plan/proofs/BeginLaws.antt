@@ -11,7 +11,9 @@ use lib.Seq.{length-sets}
 use lib.Dec.{T}
 use Rattle.numbers.specs.LittleEndian.{le}
 use Rattle.image.specs.Head.{head_size}
-use Rattle.recording.specs.declared.Answer.TheVariants.{Started, Refused}
+use Rattle.std.specs.declared.result.Result.TheVariants.{Ok, Err}
+use Rattle.refusal.specs.Named.{refusal_from}
+use Rattle.recording.specs.declared.Answer.TheVariants.{Started}
 use Rattle.recording.specs.declared.Encoder.{Encoder}
 use Rattle.recording.specs.declared.Settings.{Settings}
 use Rattle.recording.specs.declared.SignalRecord.{SignalRecord}
@@ -28,6 +30,7 @@ use Rattle.cut.specs.Turns.{first_by}
 use Rattle.cut.proofs.TurnLaws.{first-none, first-all}
 use Rattle.plan.specs.declared.Begun.{Begun}
 use Rattle.plan_state.specs.Outcomes.{outcome}
+use Rattle.plan.proofs.RefusedLaws.{first-named, start-named}
 use Rattle.plan.specs.Begin.{begun, begin_of, begin_in, start_carried}
 
 -- no number in the table is 0
@@ -42,19 +45,19 @@ module _ (s : Encoder) (settings : Settings) (bad : Bool) (n t : ℕ) (i : List 
   tests = start_tests settings n bad t (length i)
 
   pub begin-refused : (first tests ≡ 0 → ⊥)
-      → (begin_of s settings bad n t (length i) ≡ begun (outcome (Refused (first tests)) s) 0) × (begin_in settings bad n t i ≡ i)
+      → (begin_of s settings bad n t (length i) ≡ begun (outcome (Err (refusal_from (first tests))) s) 0) × (begin_in settings bad n t i ≡ i)
   unfolding begin_of begin_in
   begin-refused z = (
-    guarded-first tests (λ k. begun (outcome (Refused k) s) 0) (begun (outcome Started (start_state settings)) n) z,
+    guarded-first tests (λ k. begun (outcome (Err (refusal_from k)) s) 0) (begun (outcome (Ok Started) (start_state settings)) n) z,
     guarded-first tests (λ k. i) (head_numbers settings.limit settings.signals i) z,
   )
 
   pub begin-taken : first tests ≡ 0
-      → (begin_of s settings bad n t (length i) ≡ begun (outcome Started (start_state settings)) n) × (begin_in settings bad n t i ≡ head_numbers settings.limit settings.signals i)
+      → (begin_of s settings bad n t (length i) ≡ begun (outcome (Ok Started) (start_state settings)) n) × (begin_in settings bad n t i ≡ head_numbers settings.limit settings.signals i)
   unfolding begin_of begin_in
   begin-taken z =
       let p = start-positive settings n bad t (length i) in (
-        guarded-none tests (λ k. begun (outcome (Refused k) s) 0) (begun (outcome Started (start_state settings)) n) p z,
+        guarded-none tests (λ k. begun (outcome (Err (refusal_from k)) s) 0) (begun (outcome (Ok Started) (start_state settings)) n) p z,
         guarded-none tests (λ k. i) (head_numbers settings.limit settings.signals i) p z,
       )
 
@@ -86,7 +89,13 @@ module _ (settings : Settings) (m : Memory) where
       by : Dec (first (asked settings m) ≡ 0) → start_carried settings m ≡ start_of settings m
       by (no z) =
           let b = begin-refused m.state settings (any_bad m.records) (length m.records) (length m.times) m.image z in
-          rw (b.0, b.1, first-none fresh m.records, kinds-none m.records m.image) (sym (start-refused settings m z))
+          rw (
+            b.0,
+            b.1,
+            first-none fresh m.records,
+            kinds-none m.records m.image,
+            first-named _ (start-named settings (length m.records) (any_bad m.records) (length m.times) (length m.image)) z,
+          ) (sym (start-refused settings m z))
       by (yes z) =
           let b = begin-taken m.state settings (any_bad m.records) (length m.records) (length m.times) m.image z in
           let f = start-lawful settings m z in

@@ -2,18 +2,23 @@
 -- Assumes nothing.
 use Prim.Native.Nat.{ℕ, ◌+◌, ◌-◌, ◌<◌}
 use mathlib.Core.Path.{◌≡◌, refl, sym, ◌∙◌, subst}
-use mathlib.Core.Bool.{true, false}
+use mathlib.Core.Bool.{false}
 use mathlib.Core.List.{List, map}
+use Rattle.std.specs.Prelude as code
 use native.Mathlib.Omega.{arith}
 use native.Mathlib.Decide.{ℕ_discrete}
 use borrow.Author.Tests.{eq-eqb, ne_eqb}
 use lib.ListN.{length, take, set, replicate, length-replicate}
 use lib.Dec.{eqb}
 use Rattle.lists.specs.Choice.{pick}
-use Rattle.lists.proofs.SameLaws.{false-true}
 use Rattle.value.specs.declared.states.States.TheVariants.{Two}
 use Rattle.signal.specs.declared.kind.SignalEncoding.TheVariants.{Absent}
-use Rattle.recording.specs.declared.Answer.TheVariants.{Taken, Same, Back, Refused}
+use Rattle.std.specs.declared.option.Option.TheVariants.{None, Some}
+use Rattle.std.specs.declared.result.Result.TheVariants.{Ok, Err}
+use Rattle.refusal.specs.declared.Refusal.{Refusal}
+use Rattle.refusal.specs.Refusal.{refusal_number}
+use Rattle.refusal.specs.Named.{refusal_from}
+use Rattle.recording.specs.declared.Answer.TheVariants.{Taken, Same, Back}
 use Rattle.recording.specs.declared.Encoder.{Encoder}
 use Rattle.recording.specs.declared.SignalRecord.{SignalRecord}
 use Rattle.recording.specs.Calls.{Way, above, equal, below, way_of, reply_of}
@@ -22,7 +27,7 @@ use Rattle.recording.specs.Refusals.{no_probe, state_tests}
 use Rattle.recording.specs.Step as step
 use Rattle.recording.proofs.TestsLaws.{guarded-none, guarded-first}
 use Rattle.refusals.proofs.StateLaws.{Sound, sound, state-positive}
-use Rattle.cut.specs.Cut.{sized, next_times, CutOpens}
+use Rattle.cut.specs.Cut.{sized, data_start, cut_opened, next_times, CutOpens, CutCloses}
 use Rattle.cut.specs.Turns.{first_by, cut_turns, TurnsFit}
 use Rattle.cut.proofs.TurnLaws.{first-all}
 use Rattle.cut.proofs.CutLaws.{Cuttable, Sizes, refuses, fits, sizes, made, cut-opens, cut-turns, cut-closes, cut-made}
@@ -30,11 +35,19 @@ use Rattle.recording.specs.declared.Outcome.{Outcome}
 use Rattle.recording.specs.Step.{with_cut, timed_state}
 use Rattle.plan_state.specs.declared.plan.Plan.{Plan}
 use Rattle.plan_state.specs.Outcomes.{outcome, still, cutting, taking, closing}
-use Rattle.plan.specs.Plan.{plan_refused, time_with_cut, time_sized, plan_by, plan_time, finish_with_cut, finish_sized, plan_finish}
+use Rattle.plan.specs.Plan.{or_refused, plan_refused, time_sized, plan_by, plan_time, finish_sized, plan_finish}
 use Rattle.plan.specs.Carry.{opened_by, turned_by, closed_by, times_by, carried, Completes, Carries}
 use Rattle.plan.proofs.TimeLaws.{time-refused, time-passed, above-taken, above-cut}
-use Rattle.plan.proofs.SizedLaws.{sized-refused, sized-cut}
+use Rattle.plan.proofs.RefusedLaws.{first-named, state-named}
 use Rattle.plan.proofs.FinishLaws as ends
+
+-- nothing is not something
+no-value : {A : Type 0} {x : ℕ} → ◌≡◌ {A = code.Option ℕ} None (Some x) → A
+no-value q = let z : ◌≡◌ {A = ℕ} 0 1 = cc in absurd (omega arith)
+
+-- what holds of a value holds of the same one
+same-value : (P : ℕ → Type 0) (x y : ℕ) → ◌≡◌ {A = code.Option ℕ} (Some x) (Some y) → P x → P y
+same-value P x y q h = let e : x ≡ y = cc in subst P e h
 
 module _ (s : Encoder) (rs : List SignalRecord) (t w i : List ℕ) where
   abbrev m : Memory
@@ -42,7 +55,7 @@ module _ (s : Encoder) (rs : List SignalRecord) (t w i : List ℕ) where
 
   -- a plan whose steps' demands hold, carried out, is e
   record Does (p : Plan) (e : After) : Type 0 where
-    pub opens : p.cuts ≡ true → CutOpens p.state p.size t w i
+    pub opens : (n : ℕ) → p.cut ≡ Some n → CutOpens p.state n t w i
     pub carries : Carries p rs t w i
     pub same : carried p m ≡ e
 
@@ -58,8 +71,8 @@ module _ (s : Encoder) (rs : List SignalRecord) (t w i : List ℕ) where
   unfolding first_by cut_turns
   still-does o =
       record {
-        opens = λ q. false-true q;
-        carries = record { loop = no-turns; end = record { closes = λ q. false-true q; counted = λ q. false-true q; table = λ q. false-true q } };
+        opens = λ n q. no-value q;
+        carries = record { loop = no-turns; end = record { closes = λ n q. no-value q; counted = λ x q. no-value q; table = λ x q. no-value q } };
         same = refl;
       }
 
@@ -68,13 +81,16 @@ module _ (s : Encoder) (rs : List SignalRecord) (t w i : List ℕ) where
   unfolding first_by cut_turns
   taking-does o x h l =
       record {
-        opens = λ q. false-true q;
-        carries = record { loop = no-turns; end = record { closes = λ q. false-true q; counted = λ q. h; table = λ q. l } };
+        opens = λ n q. no-value q;
+        carries = record { loop = no-turns; end = record { closes = λ n q. no-value q; counted = λ x q. h; table = λ x q. l } };
         same = refl;
       }
 
-  refused-does : (k : ℕ) → Does (plan_refused s k) (refused m k)
-  refused-does k = still-does (outcome (Refused k) s)
+  refusal-does : (r : Refusal) → Does (or_refused s (Err r)) (refused m (refusal_number r))
+  refusal-does r = still-does (outcome (Err r) s)
+
+  refused-does : (k : ℕ) → refusal_number (refusal_from k) ≡ k → Does (plan_refused s k) (refused m k)
+  refused-does k e = subst (λ (j : ℕ). Does (plan_refused s k) (refused m j)) e (refusal-does (refusal_from k))
 
   -- ---- with a cut
 
@@ -82,14 +98,19 @@ module _ (s : Encoder) (rs : List SignalRecord) (t w i : List ℕ) where
     abbrev image : List ℕ
     image = (step.cut_in m (made s rs t w i h)).image
 
+    closes : (n : ℕ) → ◌≡◌ {A = code.Option ℕ} (Some size) (Some n) → CutCloses s n t w (cut_turns s.image (data_start s) (length rs) rs (cut_opened s size t w i)).image
+    closes n q =
+        same-value (λ k. CutCloses s k t w (cut_turns s.image (data_start s) (length rs) rs (cut_opened s size t w i)).image) size n q
+        (cut-closes s rs t w i h size c any)
+
     cut-does : (o : Outcome)
         → Does (cutting o s size (length rs)) (after (reply_of o.answer) (memory o.state (map step.rewound rs) (next_times s t) w image))
     cut-does o =
         record {
-          opens = λ q. cut-opens s rs t w i h size c any;
+          opens = λ n q. same-value (λ k. CutOpens s k t w i) size n q (cut-opens s rs t w i h size c any);
           carries = record {
             loop = cut-turns s rs t w i h size c any;
-            end = record { closes = λ q. cut-closes s rs t w i h size c any; counted = λ q. false-true q; table = λ q. false-true q };
+            end = record { closes = closes; counted = λ x q. no-value q; table = λ x q. no-value q };
           };
           same = rw (first-all step.rewound rs, cut-made s rs t w i h size c any) refl;
         }
@@ -99,10 +120,10 @@ module _ (s : Encoder) (rs : List SignalRecord) (t w i : List ℕ) where
         (after (reply_of o.answer) (memory o.state (map step.rewound rs) (set (next_times s t) (o.state.held - 1) x) w image))
     cut-takes o x k l =
         record {
-          opens = λ q. cut-opens s rs t w i h size c any;
+          opens = λ n q. same-value (λ k. CutOpens s k t w i) size n q (cut-opens s rs t w i h size c any);
           carries = record {
             loop = cut-turns s rs t w i h size c any;
-            end = record { closes = λ q. cut-closes s rs t w i h size c any; counted = λ q. k; table = λ q. l };
+            end = record { closes = closes; counted = λ y q. k; table = λ y q. l };
           };
           same = rw (first-all step.rewound rs, cut-made s rs t w i h size c any) refl;
         }
@@ -133,11 +154,10 @@ module _ (s : Encoder) (rs : List SignalRecord) (t w i : List ℕ) where
           time-is = rw (eq-eqb s.held s.limit e) refl
 
           by : Sizes s rs t w i h → Does (plan_by s (length rs) w (length i) p x above) (step.time_by m p x above)
-          by (refuses k z a b) =
-              does-by (plan-is ∙ rw a (sized-refused s _ (time_with_cut s (length rs) p x) z)) (time-is ∙ rw b refl) (refused-does k)
+          by (refuses r a b) = does-by (plan-is ∙ rw a refl) (time-is ∙ rw b refl) (refusal-does r)
           by (fits n a c) =
-              let o = outcome Taken (timed_state (with_cut s n) p) in
-              does-by (plan-is ∙ rw a (sized-cut s _ (time_with_cut s (length rs) p x) refl)) (time-is ∙ rw (c.cut, c.whole) refl)
+              let o = outcome (Ok Taken) (timed_state (with_cut s n) p) in
+              does-by (plan-is ∙ rw a refl) (time-is ∙ rw (c.cut, c.whole) refl)
               (cut-takes h n c (omega (arith, h.low)) o x (omega arith) (omega (arith, h.low, h.table)))
 
       room-does : (s.held ≡ s.limit → ⊥) → Does (plan_by s (length rs) w (length i) p x above) (step.time_by m p x above)
@@ -145,11 +165,11 @@ module _ (s : Encoder) (rs : List SignalRecord) (t w i : List ℕ) where
           let less : s.held < s.limit = omega (arith, h.held, e) in
           let back : s.held + 1 - 1 ≡ s.held = omega arith in
           does-by (above-taken s (length rs) w (length i) p x less) (rw (ne_eqb s.held s.limit e, back) refl)
-          (taking-does (outcome Taken (timed_state s p)) x (omega arith) (omega (arith, h.table, less)))
+          (taking-does (outcome (Ok Taken) (timed_state s p)) x (omega arith) (omega (arith, h.table, less)))
 
       way-does : (y : Way) → Does (plan_by s (length rs) w (length i) p x y) (step.time_by m p x y)
-      way-does equal = still-does (outcome Same (step.same_time s p))
-      way-does below = still-does (outcome Back (step.skipping s p))
+      way-does equal = still-does (outcome (Ok Same) (step.same_time s p))
+      way-does below = still-does (outcome (Ok Back) (step.skipping s p))
       way-does above = by (ℕ_discrete s.held s.limit)
         where
           by : Dec (s.held ≡ s.limit) → Does (plan_by s (length rs) w (length i) p x above) (step.time_by m p x above)
@@ -160,7 +180,9 @@ module _ (s : Encoder) (rs : List SignalRecord) (t w i : List ℕ) where
     time-does = by (ℕ_discrete (first asked) 0)
       where
         by : Dec (first asked ≡ 0) → Does (plan_time s (length rs) t w (length i) p x) (step.time_of m p x)
-        by (no z) = does-by (time-refused s (length rs) t w (length i) p x z) (refused-still z) (refused-does (first asked))
+        by (no z) =
+            does-by (time-refused s (length rs) t w (length i) p x z) (refused-still z)
+            (refused-does (first asked) (first-named asked (state-named s (no_probe p) (length rs) (length t) (length w) (length i)) z))
         by (yes z) =
             does-by (time-passed s (length rs) t w (length i) p x z) (gone-on z) (way-does (sound _ _ _ _ _ _ z) (way_of (take s.held t) x))
 
@@ -193,17 +215,18 @@ module _ (s : Encoder) (rs : List SignalRecord) (t w i : List ℕ) where
       finish-is = closed_on z ∙ rw (ne_eqb s.held 0 e) refl
 
       by : Sizes s rs t w i h → Does ending (step.finish_of m)
-      by (refuses k y a b) =
-          does-by (plan-is ∙ rw a (sized-refused s _ (finish_with_cut s (length rs)) y)) (finish-is ∙ rw b refl) (refused-does k)
+      by (refuses r a b) = does-by (plan-is ∙ rw a refl) (finish-is ∙ rw b refl) (refusal-does r)
       by (fits n a c) =
-          does-by (plan-is ∙ rw a (sized-cut s _ (finish_with_cut s (length rs)) refl)) (finish-is ∙ rw (c.cut, c.whole) refl)
+          does-by (plan-is ∙ rw a refl) (finish-is ∙ rw (c.cut, c.whole) refl)
           (cut-does h n c (omega (arith, e)) (closing (with_cut s n)))
 
   finish-does : Does ending (step.finish_of m)
   finish-does = by (ℕ_discrete (first tests) 0) (ℕ_discrete s.held 0)
     where
       by : Dec (first tests ≡ 0) → Dec (s.held ≡ 0) → Does ending (step.finish_of m)
-      by (no z) d = does-by (ends.finish-refused s (length rs) (length t) w (length i) z) (closed-back z) (refused-does (first tests))
+      by (no z) d =
+          does-by (ends.finish-refused s (length rs) (length t) w (length i) z) (closed-back z)
+          (refused-does (first tests) (first-named tests (state-named s false (length rs) (length t) (length w) (length i)) z))
       by (yes z) (yes e) =
           does-by (ends.finish-empty s (length rs) (length t) w (length i) z e) (closed_on z ∙ rw (eq-eqb s.held 0 e) refl) (still-does (closing s))
       by (yes z) (no e) = held-does (sound s false (length rs) (length t) (length w) (length i) z) z e
@@ -234,7 +257,7 @@ module _ (s : Encoder) (n : ℕ) (t w i : List ℕ) where
 
   -- the block that the plan cuts can be opened
   abbrev Opening : Plan → Type 0
-  Opening p = p.cuts ≡ true → CutOpens p.state p.size t w i
+  Opening p = (size : ℕ) → p.cut ≡ Some size → CutOpens p.state size t w i
 
   pub time-opens : (p x : ℕ) → Opening (plan_time s n t w (length i) p x)
   time-opens p x = subst (λ (k : ℕ). Opening (plan_time s k t w (length i) p x)) so-many (time-does s some-records t w i p x).opens

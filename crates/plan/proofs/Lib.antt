@@ -1,5 +1,5 @@
 pub mod BeginLaws
 pub mod CarryLaws
 pub mod FinishLaws
-pub mod SizedLaws
+pub mod RefusedLaws
 pub mod TimeLaws

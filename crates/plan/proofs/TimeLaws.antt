@@ -6,6 +6,7 @@ use mathlib.Core.List.{List}
 use native.Mathlib.Omega.{arith}
 use borrow.Author.Tests.{eq-eqb, ne_eqb}
 use lib.ListN.{length, take}
+use Rattle.std.specs.declared.result.Result.TheVariants.{Ok}
 use Rattle.recording.specs.declared.Answer.TheVariants.{Taken}
 use Rattle.recording.specs.declared.Encoder.{Encoder}
 use Rattle.recording.specs.Calls.{above, way_of}
@@ -35,7 +36,7 @@ module _ (s : Encoder) (n : ℕ) (ts w : List ℕ) (i p x : ℕ) where
 -- ---- a time that is above
 
 module _ (s : Encoder) (n : ℕ) (w : List ℕ) (i p x : ℕ) where
-  pub above-taken : s.held < s.limit → plan_by s n w i p x above ≡ taking (still (outcome Taken (timed_state s p)) s) x
+  pub above-taken : s.held < s.limit → plan_by s n w i p x above ≡ taking (still (outcome (Ok Taken) (timed_state s p)) s) x
   above-taken h =
       let different : s.held ≡ s.limit → ⊥ = λ q. omega arith in
       rw (ne_eqb s.held s.limit different) refl

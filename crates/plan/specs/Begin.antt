@@ -1,8 +1,9 @@
 -- A start, but for the loops over the records: whether it is taken, and the head's numbers.
 -- proofs/BeginLaws: with the loops this is `start_of`.
 -- Assumes nothing.
-use Rattle.std.specs.Prelude.{ℕ, Bool, List, length}
-use Rattle.recording.specs.declared.Answer.TheVariants.{Started, Refused}
+use Rattle.std.specs.Prelude.{ℕ, Bool, List, length, Ok, Err}
+use Rattle.refusal.specs.Named.{refusal_from}
+use Rattle.recording.specs.declared.Answer.TheVariants.{Started}
 use Rattle.recording.specs.declared.Encoder.{Encoder}
 use Rattle.recording.specs.declared.Settings.{Settings}
 use Rattle.recording.specs.Calls.{reply_of}
@@ -22,7 +23,7 @@ begun o n = record { outcome = o; turns = n }
 
 -- a start of `records` records, by whether one of them is bad; `times` and `image` are how many times and bytes are lent
 unfoldable pub begin_of : Encoder → Settings → (bad : Bool) → (records times image : ℕ) → Begun
-begin_of s settings bad n t i = guarded (start_tests settings n bad t i) (λ k. begun (outcome (Refused k) s) 0) (begun (outcome Started (start_state settings)) n)
+begin_of s settings bad n t i = guarded (start_tests settings n bad t i) (λ k. begun (outcome (Err (refusal_from k)) s) 0) (begun (outcome (Ok Started) (start_state settings)) n)
 
 -- the image before the loop
 unfoldable pub begin_in : Settings → (bad : Bool) → (records times : ℕ) → (image : List ℕ) → List ℕ

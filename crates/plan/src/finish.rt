@@ -1,36 +1,28 @@
 // A finish.
 ghost use Rattle.std.specs.Prelude.{◌≡◌, length};
-ghost use Rattle.plan.specs.Plan.{plan_finish};
+ghost use Rattle.plan.specs.Plan.{or_refused, plan_finish};
 ghost use Rattle.plan.specs.Carry.{opened_by};
 
 use crate::carry::open_planned;
+use crate::or_refused;
 use cut::{cut_size, cut_state};
+use plan_state::closed;
 use plan_state::plan::{Plan, plan_cut, plan_still};
-use plan_state::{closed, refused};
 use recording::{Encoder, Lengths};
+use refusal::Refusal;
 use refusals::state_refusal;
 
 // Cuts if any time is held, and closes. The answer is the total.
-fn plan_finish(state: Encoder, lent: Lengths, work: &[u8]) -> Plan
-    ensures { result ≡ plan_finish state lent.records lent.times work.now lent.image }
+fn plan_finish(state: Encoder, lent: Lengths, work: &[u8]) -> Result<Plan, Refusal>
+    ensures { or_refused state result ≡ plan_finish state lent.records lent.times work.now lent.image }
 {
-    let n = state_refusal(state, false, lent, work.len());
-    if n != 0 {
-        return plan_still(refused(n, state), state);
-    }
+    state_refusal(state, false, lent, work.len())?;
     if state.held == 0 {
-        return plan_still(closed(state), state);
+        return Ok(plan_still(closed(state), state));
     }
-    let block = cut_size(state, work, lent.image);
-    if block.refusal != 0 {
-        return plan_still(refused(block.refusal, state), state);
-    }
-    plan_cut(
-        closed(cut_state(state, block.size)),
-        state,
-        block.size,
-        lent.records,
-    )
+    let size = cut_size(state, work, lent.image)?;
+    let after = closed(cut_state(state, size));
+    Ok(plan_cut(after, state, size, lent.records))
 }
 
 // Decides a finish of a recording of n records, and opens the block to cut.
@@ -49,7 +41,7 @@ pub fn prepare_finish(
         times: times.len(),
         image: image.len(),
     };
-    let plan = plan_finish(state, lent, work);
+    let plan = or_refused(plan_finish(state, lent, work), state);
     open_planned(plan, times, work, image);
     plan
 }

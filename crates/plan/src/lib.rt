@@ -11,11 +11,27 @@ pub mod finish;
 pub mod start;
 pub mod time;
 
-use recording::Outcome;
+ghost use Rattle.std.specs.Prelude.{◌≡◌};
+ghost use Rattle.plan.specs.Plan.{or_refused};
+
+use plan_state::plan::{Plan, plan_still};
+use plan_state::refused;
+use recording::{Encoder, Outcome};
+use refusal::Refusal;
 
 // What a start comes to: turns over the records follow.
 #[derive(Clone, Copy)]
 pub struct Begun {
     pub outcome: Outcome,
     pub turns: usize,
+}
+
+// What is decided; where it is refused, nothing changes.
+fn or_refused(decided: Result<Plan, Refusal>, state: Encoder) -> Plan
+    ensures { result ≡ or_refused state decided }
+{
+    match decided {
+        Ok(plan) => plan,
+        Err(refusal) => plan_still(refused(refusal, state), state),
+    }
 }

@@ -26,12 +26,15 @@ pub fn begin(
         times,
         image: image.len(),
     };
-    let why = start_refusal(settings, bad, lent);
-    if why != 0 {
-        let outcome = refused(why, state);
-        return Begun { outcome, turns: 0 };
+    if let Err(refusal) = start_refusal(settings, bad, lent) {
+        return Begun {
+            outcome: refused(refusal, state),
+            turns: 0,
+        };
     }
     put_numbers(image, settings.limit, settings.signals);
-    let outcome = begun(settings);
-    Begun { outcome, turns: n }
+    Begun {
+        outcome: begun(settings),
+        turns: n,
+    }
 }

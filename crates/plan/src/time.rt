@@ -3,48 +3,52 @@ ghost use Rattle.std.specs.Prelude.{◌≡◌, length};
 ghost use Rattle.recording.specs.Calls.{above};
 ghost use Rattle.recording.specs.Memory.{first};
 ghost use Rattle.recording.specs.Refusals.{no_probe, state_tests};
-ghost use Rattle.plan.specs.Plan.{plan_by, plan_time};
+ghost use Rattle.plan.specs.Plan.{or_refused, plan_by, plan_time};
 ghost use Rattle.plan.specs.Carry.{opened_by};
 
 use crate::carry::open_planned;
+use crate::or_refused;
 use cut::{cut_size, cut_state};
 use plan_state::plan::{Plan, plan_cut, plan_still, plan_taken};
-use plan_state::way::{Way, way_of};
-use plan_state::{back, refused, same, taken};
+use plan_state::way::way_of;
+use plan_state::{back, same, taken};
 use recording::{Encoder, Lengths, Stamp, no_probe};
+use refusal::Refusal;
 use refusals::state_refusal;
+use std::cmp::Ordering;
 
 // A time that is above: a full table is cut first.
-fn plan_above(state: Encoder, lent: Lengths, work: &[u8], stamp: Stamp) -> Plan
+fn plan_above(state: Encoder, lent: Lengths, work: &[u8], stamp: Stamp) -> Result<Plan, Refusal>
     requires { first (state_tests state (no_probe stamp.sender) lent.records lent.times (length work.now) lent.image) ≡ 0 }
-    ensures { result ≡ plan_by state lent.records work.now lent.image stamp.sender stamp.time above }
+    ensures { or_refused state result ≡ plan_by state lent.records work.now lent.image stamp.sender stamp.time above }
 {
     if state.held < state.limit {
-        return plan_taken(plan_still(taken(state, stamp.sender), state), stamp.time);
+        let plan = plan_still(taken(state, stamp.sender), state);
+        return Ok(plan_taken(plan, stamp.time));
     }
-    let block = cut_size(state, work, lent.image);
-    if block.refusal != 0 {
-        return plan_still(refused(block.refusal, state), state);
-    }
-    let after = taken(cut_state(state, block.size), stamp.sender);
-    plan_taken(plan_cut(after, state, block.size, lent.records), stamp.time)
+    let size = cut_size(state, work, lent.image)?;
+    let after = taken(cut_state(state, size), stamp.sender);
+    let plan = plan_cut(after, state, size, lent.records);
+    Ok(plan_taken(plan, stamp.time))
 }
 
 // A larger time than the last, whoever sent that, is taken, after a cut if the table is full; an equal one adds no time, and ends the skip of
 // its sender in edition 2; a smaller one starts it.
-fn plan_time(state: Encoder, lent: Lengths, times: &[u64], work: &[u8], stamp: Stamp) -> Plan
+fn plan_time(
+    state: Encoder,
+    lent: Lengths,
+    times: &[u64],
+    work: &[u8],
+    stamp: Stamp,
+) -> Result<Plan, Refusal>
     requires { lent.times ≡ length times.now }
-    ensures { result ≡ plan_time state lent.records times.now work.now lent.image stamp.sender stamp.time }
+    ensures { or_refused state result ≡ plan_time state lent.records times.now work.now lent.image stamp.sender stamp.time }
 {
-    let foreign = no_probe(stamp.sender);
-    let n = state_refusal(state, foreign, lent, work.len());
-    if n != 0 {
-        return plan_still(refused(n, state), state);
-    }
+    state_refusal(state, no_probe(stamp.sender), lent, work.len())?;
     match way_of(times, state.held, stamp.time) {
-        Way::Above => plan_above(state, lent, work, stamp),
-        Way::Equal => plan_still(same(state, stamp.sender), state),
-        Way::Below => plan_still(back(state, stamp.sender), state),
+        Ordering::Greater => plan_above(state, lent, work, stamp),
+        Ordering::Equal => Ok(plan_still(same(state, stamp.sender), state)),
+        Ordering::Less => Ok(plan_still(back(state, stamp.sender), state)),
     }
 }
 
@@ -65,7 +69,7 @@ pub fn prepare_time(
         times: times.len(),
         image: image.len(),
     };
-    let plan = plan_time(state, lent, times, work, stamp);
+    let plan = or_refused(plan_time(state, lent, times, work, stamp), state);
     open_planned(plan, times, work, image);
     plan
 }

@@ -1,10 +1,10 @@
--- The code's enum of a time's way, by the definition's.
+-- How a time compares with the last one, by the definition's cases.
 -- Assumes nothing.
+use Rattle.std.specs.declared.cmp.Ordering.{Ordering}
+use Rattle.std.specs.declared.cmp.Ordering.TheVariants.{Less, Equal, Greater}
 use Rattle.recording.specs.Calls as calls
-use Rattle.plan_state.specs.declared.way.Way.{Way}
-use Rattle.plan_state.specs.declared.way.Way.TheVariants.{Above, Equal, Below}
 
-abbrev pub way_in : Way → calls.Way
-way_in Above = calls.above
+abbrev pub way_in : Ordering → calls.Way
+way_in Greater = calls.above
 way_in Equal = calls.equal
-way_in Below = calls.below
+way_in Less = calls.below

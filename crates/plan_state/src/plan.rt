@@ -11,17 +11,15 @@ pub struct Plan {
     pub outcome: Outcome,
     // The state before the call.
     pub state: Encoder,
-    // A block is cut, of so many bytes.
-    pub cuts: bool,
-    pub size: u32,
+    // How many bytes the block has that is cut, if one is.
+    pub cut: Option<u32>,
     // The turns over the records: all of them, or none where nothing is cut.
     pub turns: usize,
     // Used bytes of the image, and where the data of the block begin, from its first byte on.
     pub used: usize,
     pub start: usize,
-    // A time is taken.
-    pub takes: bool,
-    pub time: u64,
+    // The time that is taken, if one is.
+    pub time: Option<u64>,
 }
 
 // Nothing is cut, and no time is taken.
@@ -31,13 +29,11 @@ pub fn plan_still(outcome: Outcome, state: Encoder) -> Plan
     Plan {
         outcome,
         state,
-        cuts: false,
-        size: 0,
+        cut: None,
         turns: 0,
         used: 0,
         start: 0,
-        takes: false,
-        time: 0,
+        time: None,
     }
 }
 
@@ -48,13 +44,11 @@ pub fn plan_cut(outcome: Outcome, state: Encoder, size: u32, records: usize) -> 
     Plan {
         outcome,
         state,
-        cuts: true,
-        size,
+        cut: Some(size),
         turns: records,
         used: state.image as usize,
         start: data_start(state.signals as usize, state.held as usize),
-        takes: false,
-        time: 0,
+        time: None,
     }
 }
 
@@ -62,8 +56,8 @@ pub fn plan_cut(outcome: Outcome, state: Encoder, size: u32, records: usize) -> 
 pub fn plan_taken(plan: Plan, time: u64) -> Plan
     ensures { result ≡ taking plan time }
 {
-    let mut after = plan;
-    after.takes = true;
-    after.time = time;
-    after
+    Plan {
+        time: Some(time),
+        ..plan
+    }
 }

@@ -3,28 +3,16 @@ ghost use Rattle.std.specs.Prelude.{◌≡◌, ◌≤◌, length, take};
 ghost use Rattle.recording.specs.Calls.{way_of};
 ghost use Rattle.plan_state.specs.Way.{way_in};
 
-// A time against the last one taken; the first is above.
-#[derive(Clone, Copy)]
-pub enum Way {
-    Above,
-    Equal,
-    Below,
-}
+use std::cmp::Ordering;
 
-// Where a time stands against the last of the held ones. Without one every time is above.
-pub fn way_of(times: &[u64], held: u32, time: u64) -> Way
+// A time against the last of the held ones. Without one every time is above.
+pub fn way_of(times: &[u64], held: u32, time: u64) -> Ordering
     requires { held ≤ length times.now }
     ensures { way_in result ≡ way_of (take held times.now) time }
 {
     if held == 0 {
-        return Way::Above;
+        return Ordering::Greater;
     }
     let last = times[held as usize - 1];
-    if last < time {
-        Way::Above
-    } else if time == last {
-        Way::Equal
-    } else {
-        Way::Below
-    }
+    time.cmp(&last)
 }

@@ -4,15 +4,14 @@ ghost use Rattle.reading.specs.Stream.{value_class, entry_at, is_stream};
 
 use signal::decode::ChangeValue;
 use signal::kind::SignalEncoding;
-use stream::read::ReadChange;
 use stream_read::read_change;
 use value::states::States;
 
-// The index of a change and the place after it, or no change that fits.
+// The index of a change and the place after it.
 #[derive(Clone, Copy)]
-pub enum NextChange {
-    At(u32, usize),
-    Wrong,
+pub struct NextChange {
+    pub index: u32,
+    pub next: usize,
 }
 
 // The class of a value; events and reals are of class 0.
@@ -27,7 +26,7 @@ fn class_of(value: ChangeValue) -> u8
     }
 }
 
-// The change at a place of a stream, after one at index `previous`: below `times`, of a class up to top.
+// The change at a place of a stream, after one at index `previous`: below `times`, of a class up to top. None where no change fits.
 fn change_at(
     s: &[u8],
     at: usize,
@@ -35,23 +34,22 @@ fn change_at(
     times: u32,
     top: u8,
     previous: u32,
-) -> NextChange
+) -> Option<NextChange>
     requires { previous ≤ 65535 }
     ensures { result ≡ entry_at kind times top previous s.now at }
 {
-    match read_change(s, at, kind) {
-        ReadChange::Change(d, value, next) => {
-            let index = previous + d;
-            if times <= index {
-                return NextChange::Wrong;
-            }
-            if top < class_of(value) {
-                return NextChange::Wrong;
-            }
-            NextChange::At(index, next)
-        }
-        ReadChange::Bad => NextChange::Wrong,
+    let change = read_change(s, at, kind)?;
+    let index = previous + change.delta;
+    if times <= index {
+        return None;
     }
+    if top < class_of(change.value) {
+        return None;
+    }
+    Some(NextChange {
+        index,
+        next: change.next,
+    })
 }
 
 // Whether bytes are the stream of a signal in a block: changes at indices below `times`, of classes up to top.
@@ -61,16 +59,13 @@ pub fn is_stream(s: &[u8], kind: SignalEncoding, times: u32, top: u8) -> bool
 {
     let mut at: usize = 0;
     let mut previous: u32 = 0;
+    // A change's length is known once it is read, so its place is no range's.
     while at < s.len() {
-        match change_at(s, at, kind, times, top, previous) {
-            NextChange::At(index, next) => {
-                previous = index;
-                at = next;
-            }
-            NextChange::Wrong => {
-                return false;
-            }
-        }
+        let Some(change) = change_at(s, at, kind, times, top, previous) else {
+            return false;
+        };
+        previous = change.index;
+        at = change.next;
     }
     0 < s.len()
 }

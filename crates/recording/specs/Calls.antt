@@ -1,12 +1,14 @@
 -- Document 01, 'Recording' and 'History': the calls of a recording, and what their answers say.
 -- Assumes nothing.
-use Rattle.std.specs.Prelude.{ℕ, ◌+◌, ◌<◌, ◌^◌, Bool, true, false, List, [], ◌∷◌, map, length, ltb, eqb}
+use Rattle.std.specs.Prelude.{ℕ, ◌+◌, ◌<◌, ◌^◌, Bool, true, false, List, [], ◌∷◌, map, length, ltb, eqb, Result, Ok, Err}
 use Rattle.lists.specs.Bytes.{Bytes}
 use Rattle.lists.specs.Choice.{pick}
 use Rattle.lists.specs.Last.{last_or}
+use Rattle.refusal.specs.declared.Refusal.{Refusal}
+use Rattle.refusal.specs.Refusal.{refusal_number}
 use Rattle.signal.specs.Content.{Given, vcd, raw, real}
 use Rattle.recording.specs.declared.Answer.{Answer}
-use Rattle.recording.specs.declared.Answer.TheVariants.{Started, Taken, Same, Back, Recorded, Skipped, Finished, Refused}
+use Rattle.recording.specs.declared.Answer.TheVariants.{Started, Taken, Same, Back, Recorded, Skipped, Finished}
 
 -- time; VCD, raw and real change (the cases of `Given`) of any signal number; finish. Document 02, (k): each time and change names its sender, of
 -- any number; finish names none
@@ -50,16 +52,16 @@ pub data Reply : Type 0 where
   started : Reply
   total : ℕ → Reply
 
--- the one reading of the code's enum
-abbrev pub reply_of : Answer → Reply
-reply_of Started = started
-reply_of Taken = say taken
-reply_of Same = say same
-reply_of Back = say back
-reply_of Recorded = say recorded
-reply_of Skipped = say skipped
-reply_of (Finished n) = total n
-reply_of (Refused n) = refuse n
+-- the one reading of the code's answers and refusals
+abbrev pub reply_of : Result Answer Refusal → Reply
+reply_of (Ok Started) = started
+reply_of (Ok Taken) = say taken
+reply_of (Ok Same) = say same
+reply_of (Ok Back) = say back
+reply_of (Ok Recorded) = say recorded
+reply_of (Ok Skipped) = say skipped
+reply_of (Ok (Finished n)) = total n
+reply_of (Err r) = refuse (refusal_number r)
 
 -- of the answers, only which are refusals
 abbrev pub is_refusal : Reply → Bool

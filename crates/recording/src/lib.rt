@@ -9,6 +9,7 @@ ghost use Rattle.recording.specs.Memory.{record_of};
 ghost use Rattle.recording.specs.Refusals.{no_probe, bad_record};
 ghost use Rattle.recording.specs.Step as step;
 
+use refusal::Refusal;
 use signal::SignalRef;
 use signal::kind::{SignalEncoding, known_kind};
 use value::states::States;
@@ -39,7 +40,7 @@ pub struct ProbeSkip {
     pub count: u32,
 }
 
-// Of both probes.
+// Of both probes. Two fields are plainer than an array: a sender has 32 bits, and as an index it would need a test or a proof at each use.
 #[derive(Clone, Copy)]
 pub struct Skips {
     pub zero: ProbeSkip,
@@ -90,7 +91,7 @@ pub struct Target {
     pub signal: SignalRef,
 }
 
-// What a call of a recording answers.
+// What a call of a recording answers, where it is not refused.
 #[derive(Clone, Copy)]
 pub enum Answer {
     Started,
@@ -101,14 +102,12 @@ pub enum Answer {
     Skipped,
     // The total bytes of the image.
     Finished(u32),
-    // The refusal's number.
-    Refused(u32),
 }
 
-// What a call answers, and the state after it.
+// What a call answers or why it is refused, and the state after it: a refused call leaves it as it was.
 #[derive(Clone, Copy)]
 pub struct Outcome {
-    pub answer: Answer,
+    pub answer: Result<Answer, Refusal>,
     pub state: Encoder,
 }
 
@@ -124,12 +123,10 @@ pub struct Lengths {
 pub fn absent_record() -> SignalRecord
     ensures { result ≡ record_of SignalEncoding.Absent 0 States.Two 0 }
 {
-    let kind = SignalEncoding::Absent;
-    let lowest = States::Two;
     SignalRecord {
-        kind,
+        kind: SignalEncoding::Absent,
         index: 0,
-        top: lowest,
+        top: States::Two,
         probe: 0,
     }
 }
@@ -145,24 +142,18 @@ pub fn no_probe(number: u32) -> bool
 pub fn bad_record(record: SignalRecord) -> bool
     ensures { result ≡ bad_record «record» }
 {
-    let kind = record.kind;
-    if !known_kind(kind) {
-        return true;
-    }
-    no_probe(record.probe as u32)
+    !known_kind(record.kind) || no_probe(u32::from(record.probe))
 }
 
 // The record at the start of a recording: index and class are 0, kind and probe stay.
 pub fn fresh(record: SignalRecord) -> SignalRecord
     ensures { result ≡ step.fresh «record» }
 {
-    let kind = record.kind;
     let top = States::Two;
     SignalRecord {
-        kind,
         index: 0,
         top,
-        probe: record.probe,
+        ..record
     }
 }
 
@@ -170,12 +161,5 @@ pub fn fresh(record: SignalRecord) -> SignalRecord
 pub fn rewound(record: SignalRecord) -> SignalRecord
     ensures { result ≡ step.rewound «record» }
 {
-    let kind = record.kind;
-    let top = record.top;
-    SignalRecord {
-        kind,
-        index: 0,
-        top,
-        probe: record.probe,
-    }
+    SignalRecord { index: 0, ..record }
 }

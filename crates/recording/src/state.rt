@@ -20,16 +20,14 @@ impl ProbeSkip {
     pub fn begun(self) -> ProbeSkip
         ensures { result ≡ skip_begun self }
     {
-        let count = self.count;
-        ProbeSkip { on: true, count }
+        ProbeSkip { on: true, ..self }
     }
 
     // It ends, as where a time was taken.
     pub fn ended(self) -> ProbeSkip
         ensures { result ≡ skip_ended self }
     {
-        let count = self.count;
-        ProbeSkip { on: false, count }
+        ProbeSkip { on: false, ..self }
     }
 
     // An equal time came: it ends a skip in edition 2.
@@ -37,24 +35,24 @@ impl ProbeSkip {
         ensures { result ≡ skip_same edition self }
     {
         if edition == EDITION_2 {
-            return self.ended();
+            self.ended()
+        } else {
+            self
         }
-        self
     }
 
     // A change was skipped.
     pub fn counted(self) -> ProbeSkip
         ensures { result ≡ skip_counted self }
     {
-        let on = self.on;
-        let count = self.count;
-        if count < 4294967295 {
-            return ProbeSkip {
-                on,
-                count: count + 1,
-            };
+        if self.count < u32::MAX {
+            ProbeSkip {
+                count: self.count + 1,
+                ..self
+            }
+        } else {
+            self
         }
-        self
     }
 }
 
@@ -73,10 +71,7 @@ impl Skips {
     pub fn of(self, sender: u32) -> ProbeSkip
         ensures { result ≡ skip_of self sender }
     {
-        if sender == 0 {
-            return self.zero;
-        }
-        self.one
+        if sender == 0 { self.zero } else { self.one }
     }
 
     // The sender's becomes this one; the other probe's stays.
@@ -84,11 +79,10 @@ impl Skips {
         ensures { result ≡ with_skip self sender skip }
     {
         if sender == 0 {
-            let one = self.one;
-            return Skips { zero: skip, one };
+            Skips { zero: skip, ..self }
+        } else {
+            Skips { one: skip, ..self }
         }
-        let zero = self.zero;
-        Skips { zero, one: skip }
     }
 }
 

@@ -4,5 +4,5 @@
 use std::io;
 
 fn main(rt: HostRuntime) -> io::Result<()> {
-    sheet::tests::replay(&mut rt.stdin(), &mut rt.stdout(), 0)
+    sheet::tests::replay(&mut rt.stdin(), &mut rt.stdout(), false)
 }

@@ -2,32 +2,34 @@
 -- Assumes nothing.
 use Prim.Native.Nat.{ℕ, ◌≤◌}
 use mathlib.Core.Path.{◌≡◌, refl}
-use mathlib.Core.Bool.{Bool, false}
-use borrow.Author.Tests.{le-ltb, ltb-false, eqb-true, not-false}
+use mathlib.Core.Bool.{Bool, true, false, ◌||◌}
+use borrow.Author.Tests.{ltb-false, eqb-true, not-false}
 use lib.Dec.{ltb, T}
-use lib.ListN.{drop}
+use Rattle.lists.specs.Choice.{pick}
 use Rattle.lists.proofs.ChoiceLaws.{none-holds}
 use Rattle.recording.specs.declared.Encoder.{Encoder}
 use Rattle.recording.specs.declared.Settings.{Settings}
 use Rattle.recording.specs.Memory.{first}
 use Rattle.recording.specs.Refusals.{start_tests, state_tests}
 use Rattle.recording.proofs.TestsLaws.{positive, none_of}
+use Rattle.refusals.specs.Groups.{bad_start, altered}
 
--- past a start's tests of B, the edition and the time buffer
-pub times-past : (settings : Settings) (records : ℕ) (bad : Bool) (times image : ℕ)
-    → 2 ≤ settings.limit → settings.limit ≤ 65535 → 1 ≤ settings.edition → settings.edition ≤ 2 → settings.limit ≤ times
-    → first (start_tests settings records bad times image) ≡ first (drop 3 (start_tests settings records bad times image))
+-- two tests told by one number are one test
+both-told : {A : Type 0} (a b : Bool) (x y : A) → pick a x (pick b x y) ≡ pick (a || b) x y
+both-told true b x y = refl
+both-told false b x y = refl
+
+-- the first of a start's tests that holds is 1, where one does
+pub start-told : (s : Settings) (records : ℕ) (bad : Bool) (times image : ℕ)
+    → first (start_tests s records bad times image) ≡ pick (bad_start s records bad times image) 1 0
 unfolding start_tests
-times-past s records bad times image a b d e t =
-    rw (le-ltb s.limit 2 a, le-ltb 65535 s.limit b, le-ltb s.edition 1 d, le-ltb 2 s.edition e, le-ltb times s.limit t) refl
+start-told s records bad times image = simp both-told
 
--- past the tests of the sender, B, the edition, the held times and the time buffer
-pub limits-past : (s : Encoder) (foreign : Bool) (records times work image : ℕ) → s.closed ≡ false → foreign ≡ false
-    → 2 ≤ s.limit → s.limit ≤ 65535 → 1 ≤ s.edition → s.edition ≤ 2 → s.held ≤ s.limit → s.limit ≤ times
-    → first (state_tests s foreign records times work image) ≡ first (drop 6 (state_tests s false records times work image))
+-- past the tests of the recording and of the sender
+pub state-told : (s : Encoder) (foreign : Bool) (records times work image : ℕ) → s.closed ≡ false → foreign ≡ false
+    → first (state_tests s foreign records times work image) ≡ pick (altered s records times work image) 10 0
 unfolding state_tests
-limits-past s foreign records times work image o f a b d e h t =
-    rw (o, f, le-ltb s.limit 2 a, le-ltb 65535 s.limit b, le-ltb s.edition 1 d, le-ltb 2 s.edition e, le-ltb s.limit s.held h, le-ltb times s.limit t) refl
+state-told s foreign records times work image o f = rw (o, f) (simp both-told)
 
 -- what holds where no test of the state refuses a call
 pub record Sound (s : Encoder) (records times work image : ℕ) : Type 0 where

@@ -5,5 +5,5 @@
 use std::io;
 
 fn main(rt: HostRuntime) -> io::Result<()> {
-    sheet::tests::replay(&mut rt.stdin(), &mut rt.stdout(), 1)
+    sheet::tests::replay(&mut rt.stdin(), &mut rt.stdout(), true)
 }

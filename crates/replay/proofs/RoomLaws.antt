@@ -5,9 +5,8 @@ use mathlib.Core.Path.{◌≡◌, refl, sym, ap, ◌∙◌}
 use native.Mathlib.Omega.{arith}
 use lib.ListN.{length}
 use Rattle.signal.specs.Kind.{width_of}
-use Rattle.signal.specs.Content.{Given, GivenFits, real, bits, decode}
+use Rattle.signal.specs.Content.{Given, GivenFits}
 use Rattle.signal.specs.declared.kind.SignalEncoding.{SignalEncoding}
-use Rattle.signal.specs.declared.kind.SignalEncoding.TheVariants.{Real}
 use Rattle.signal.specs.declared.decode.ChangeValue.{ChangeValue}
 use Rattle.stream.specs.Stream.{change_bytes}
 use Rattle.stream.specs.Answer.{Says, said_bytes, change_length}
@@ -18,8 +17,3 @@ pub room : (k : SignalEncoding) (d : ℕ) (g : Given) (v : ChangeValue) (w l n :
 room k d g v w l n f s e m h =
     let q : length (said_bytes k d g) ≡ l = says-length k d g v f s ∙ ap (λ (w : ℕ). change_length w d v) (sym e) ∙ sym m in
     omega arith
-
-pub real-room : (d b : ℕ) (v : ChangeValue) (l n : ℕ) → b < 2 ^ 64 → Says Real (real b) v → l ≡ change_length 0 d v → l ≤ n
-    → 0 + length (change_bytes Real d (bits b)) ≤ n
-unfolding decode
-real-room d b v l n f s m h = room Real d (real b) v 0 l n f s refl m h

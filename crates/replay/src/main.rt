@@ -8,15 +8,12 @@ mod question;
 use answer::answer;
 use std::io;
 use std::io::Write;
-use text::{between, past, read_full};
+use text::read_full;
 
 // Answers each line. The text ends in a line feed.
 fn replay<W: Write>(to: &mut W, s: &[u8]) -> io::Result<()> {
-    let mut at = 0;
-    while at < s.len() {
-        let end = past(s, at, b'\n');
-        answer(to, between(s, at, end))?;
-        at = end;
+    for line in s.split_inclusive(|b| *b == b'\n') {
+        answer(to, line)?;
     }
     Ok(())
 }

@@ -3,44 +3,45 @@ use signal::kind::SignalEncoding;
 use text::number::number_32;
 use text::{byte_at, word};
 
-// The first letter, the parts that are numbers, and which word is HEX.
+// How the value is given.
+#[derive(Clone, Copy)]
+pub enum Form {
+    Vcd,
+    // A raw value, with the number of the class that it claims.
+    Raw(u32),
+    Real,
+}
+
+// The form, the parts that are numbers, and which word is HEX.
 #[derive(Clone, Copy)]
 pub struct Question {
-    pub form: u8,
+    pub form: Form,
     pub kind: SignalEncoding,
     pub d: u32,
-    pub claim: u32,
     pub hex: usize,
 }
 
+// A line with any other letter asks for a real with the words of `r`.
 pub fn parse(line: &[u8]) -> Question {
-    let form = byte_at(line, 0);
+    let letter = byte_at(line, 0);
     let first = number_32(word(line, 1));
-    if form == b'f' {
+    if letter == b'f' {
         return Question {
-            form,
+            form: Form::Real,
             kind: SignalEncoding::Real,
             d: first,
-            claim: 0,
             hex: 2,
         };
     }
-    let kind = SignalEncoding::BitVector(first);
-    let d = number_32(word(line, 2));
-    if form == b'v' {
-        return Question {
-            form,
-            kind,
-            d,
-            claim: 0,
-            hex: 3,
-        };
-    }
+    let (form, hex) = match letter {
+        b'v' => (Form::Vcd, 3),
+        b'r' => (Form::Raw(number_32(word(line, 3))), 4),
+        _ => (Form::Real, 4),
+    };
     Question {
         form,
-        kind,
-        d,
-        claim: number_32(word(line, 3)),
-        hex: 4,
+        kind: SignalEncoding::BitVector(first),
+        d: number_32(word(line, 2)),
+        hex,
     }
 }

@@ -1,45 +1,14 @@
-// The recorder's calls, each by its number in a run.
-use crate::run::{FINISH, Given, RAW, START, TIME, VCD, low};
-use flat::finish::finish;
-use flat::start::start;
-use flat::time::time_change;
-use flat_changes::{raw_value_change, real_change, vcd_value_change};
-use recording::{Encoder, Outcome, Target};
+// The recorder's calls.
+use crate::run::Call;
+use encoder::changes::{raw_claim_change, real_change, vcd_value_change};
+use encoder::finish::finish;
+use encoder::start::start;
+use encoder::time::time_change;
+use recording::{Encoder, Outcome};
 
-// Makes a change. The number is the claim of a raw value, or the bits of a real.
-fn change(
-    call: u64,
-    target: Target,
-    number: u64,
-    value: &[u8],
-    state: Encoder,
-    records: &mut [u64],
-    times: &[u64],
-    work: &mut [u8],
-    image: &[u8],
-) -> Outcome {
-    match call {
-        VCD => vcd_value_change(state, records, times, work, image, target, value),
-        RAW => {
-            raw_value_change(
-                state,
-                records,
-                times,
-                work,
-                image,
-                target,
-                low(number),
-                value,
-            )
-        }
-        _ => real_change(state, records, times, work, image, target, number),
-    }
-}
-
-// Makes a call with what it is given; value is the text of a VCD value, or the bytes of a raw one.
+// Makes a call; value is the text of a VCD value, or the bytes of a raw one.
 pub fn perform(
-    call: u64,
-    given: Given,
+    call: Call,
     value: &[u8],
     state: Encoder,
     records: &mut [u64],
@@ -48,28 +17,15 @@ pub fn perform(
     image: &mut [u8],
 ) -> Outcome {
     match call {
-        START => {
-            let settings = given.settings;
-            start(state, settings, records, &*times, image)
+        Call::Start(settings) => start(state, settings, records, times, image),
+        Call::Time(stamp) => time_change(state, records, times, work, image, stamp),
+        Call::Vcd(target) => { vcd_value_change(state, records, times, work, image, target, value) }
+        Call::Raw(target, claim) => {
+            raw_claim_change(state, records, times, work, image, target, claim, value)
         }
-        TIME => {
-            let stamp = given.stamp;
-            time_change(state, records, times, &*work, image, stamp)
+        Call::Real(target, bits) => {
+            real_change(state, records, times, work, image, target, bits)
         }
-        FINISH => finish(state, records, times, &*work, image),
-        _ => {
-            let target = given.target;
-            change(
-                call,
-                target,
-                given.number,
-                value,
-                state,
-                records,
-                &*times,
-                work,
-                &*image,
-            )
-        }
+        Call::Finish => finish(state, records, times, work, image),
     }
 }

@@ -11,84 +11,58 @@ pub mod record;
 pub mod run;
 pub mod tests;
 
-ghost use Rattle.std.specs.Prelude.{◌≤◌, length};
-
 use calls::perform;
 use line::words::after;
 use record::names_one;
-use run::{
-    BOTH, CALL, IMAGE, RAW, RECORDS, Run, TIMES, WORK, flag, given_of, put_outcome, state_of,
-};
+use recording::{Answer, Encoder};
+use refusal::Refusal;
+use run::{Call, Run};
 
-// The first so many numbers, or all.
-pub fn lent_numbers(s: &mut [u64], n: u64) -> &mut [u64] {
-    let end = n as usize;
-    if s.len() < end {
-        return s;
-    }
-    &mut s[0..end]
+// The memory of a run, of which each call is lent a part.
+#[derive(Drop)]
+pub struct Memory<'a> {
+    pub records: &'a mut [u64],
+    pub times: &'a mut [u64],
+    pub work: &'a mut [u8],
+    pub image: &'a mut [u8],
 }
 
-// The first so many bytes, or all.
-pub fn lent_bytes(s: &mut [u8], n: u64) -> &mut [u8] {
-    let end = n as usize;
-    if s.len() < end {
-        return s;
-    }
-    &mut s[0..end]
+// The first so many elements, or all.
+pub fn lent<T>(s: &mut [T], n: u64) -> &mut [T] {
+    let end = s.len().min(n as usize);
+    &mut s[..end]
 }
 
-// Makes the call that the run holds on the lent part of each buffer; value is the text of a VCD value, or the bytes of a raw one. The run
-// holds the answer then.
+// Makes a call on the lent part of each buffer; value is the text of a VCD value, or the bytes of a raw one.
 pub fn make_call(
     run: &mut Run,
+    call: Call,
     value: &[u8],
-    records: &mut [u64],
-    times: &mut [u64],
-    work: &mut [u8],
-    image: &mut [u8],
-) {
-    let state = state_of(&*run);
-    let given = given_of(&*run);
-    let r = run[RECORDS];
-    let t = run[TIMES];
-    let w = run[WORK];
-    let i = run[IMAGE];
+    memory: &mut Memory,
+) -> Result<Answer, Refusal> {
     let outcome = perform(
-        run[CALL],
-        given,
+        call,
         value,
-        state,
-        lent_numbers(records, r),
-        lent_numbers(times, t),
-        lent_bytes(work, w),
-        lent_bytes(image, i),
+        Encoder::from(run.state),
+        lent(memory.records, run.records),
+        lent(memory.times, run.lent.times),
+        lent(memory.work, run.lent.work),
+        lent(memory.image, run.lent.image),
     );
-    put_outcome(run, outcome)
-}
-
-// Says whether a record of the recording names probe 1, for the answer of a finish.
-pub fn mark_probes(run: &mut Run, records: &[u64]) {
-    run[BOTH] = flag(names_one(records, run[RECORDS]));
+    run.keep(outcome);
+    run.both = names_one(memory.records, run.records);
+    outcome.answer
 }
 
 // The digits of a line's value, where values are given in hexadecimal.
-pub fn value_digits<'a>(run: &Run, line: &'a [u8]) -> &'a [u8] {
-    if run[CALL] == RAW {
-        return after(line, 3);
+pub fn value_digits(call: Call, line: &[u8]) -> &[u8] {
+    match call {
+        Call::Raw(_, _) => after(line, 3),
+        _ => after(line, 2),
     }
-    after(line, 2)
 }
 
-// The place of the next line feed; the end where there is none.
-pub fn line_end(sheet: &[u8], at: usize) -> usize
-    requires { at ≤ length sheet.now }
-    ensures { (at ≤ result) × (result ≤ length sheet.now) }
-{
-    for i in at..sheet.len() {
-        if sheet[i] == b'\n' {
-            return i;
-        }
-    }
-    sheet.len()
+// The lines of a sheet, without their line feeds. What follows the last line feed is a line too: an empty one says nothing.
+pub fn is_line_feed(byte: &u8) -> bool {
+    *byte == b'\n'
 }

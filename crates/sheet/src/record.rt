@@ -28,15 +28,8 @@ pub fn probe_of(record: u64) -> u8 {
 
 // One of the first so many records names probe 1.
 pub fn names_one(records: &[u64], count: u64) -> bool {
-    for i in 0..records.len() {
-        if count <= i as u64 {
-            return false;
-        }
-        if probe_of(records[i]) == 1 {
-            return true;
-        }
-    }
-    false
+    let count = records.len().min(count as usize);
+    records[..count].iter().any(|r| probe_of(*r) == 1)
 }
 
 pub fn no_records() -> [u64; 65537] {
@@ -54,15 +47,12 @@ fn copies(kind: &[u8]) -> u64 {
 
 // Writes copies of a number from a place on, as far as there is room, and answers the place after them.
 fn put_copies(records: &mut [u64], from: usize, count: u64, n: u64) -> usize {
-    let mut i = from;
-    for _ in 0..count {
-        if records.len() <= i {
-            return i;
-        }
-        records[i] = n;
-        i += 1;
+    let end = records.len().min(from.saturating_add(count as usize));
+    if end <= from {
+        return from;
     }
-    i
+    records[from..end].fill(n);
+    end
 }
 
 // Writes the records that a start is to find, `start S B KIND ..`, and answers how many there are. Their index and class are not 0: a

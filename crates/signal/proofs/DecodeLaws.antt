@@ -8,6 +8,8 @@ use mathlib.Core.Option.{Option, some, none}
 use native.Mathlib.Omega.{arith}
 use lib.Dec.{leb}
 use lib.ListN.{length, get_or}
+use Rattle.std.specs.Prelude.{Result, Ok, Err}
+use Rattle.refusal.specs.declared.Refusal.{Refusal}
 use Rattle.lists.specs.Choice.{pick}
 use Rattle.lists.proofs.SmallLaws.{one-element}
 use Rattle.value.specs.Class.{states_of, class_number, class_of_all, all_symbols}
@@ -17,15 +19,16 @@ use Rattle.value.specs.declared.symbol.Bit.{Bit}
 use Rattle.value.proofs.ClassLaws.{number-states, class-all-small, one_class}
 use Rattle.signal.specs.declared.kind.SignalEncoding.{SignalEncoding}
 use Rattle.signal.specs.declared.kind.SignalEncoding.TheVariants.{BitVector, Real, Absent}
+use Rattle.signal.specs.declared.decode.ChangeValue.{ChangeValue}
 use Rattle.signal.specs.declared.decode.ChangeValue.TheVariants as value
-use Rattle.signal.specs.declared.decode.DecodedChange.TheVariants.{Change}
+use Rattle.signal.specs.declared.decode.DecodedChange.{DecodedChange}
 use Rattle.vcd.specs.Vcd.{vcd_symbols}
 use Rattle.vcd.proofs.VcdLaws.{vcd-length, vcd-symbols}
 use Rattle.packed.specs.Raw.{raw_symbols}
 use Rattle.packed.proofs.RawSaid.{raw-said, raw-length}
 use Rattle.signal.specs.Kind.{top_limit}
 use Rattle.signal.specs.Content.{Content, happened, symbols, bits, symbols_of, ContentFits, Given, vcd, raw, real, GivenFits, refuse, accept, vector_says, event_says, decode}
-use Rattle.signal.specs.Answer.{decoded_as, vector_answer}
+use Rattle.signal.specs.Answer.{decoded_to, decoded_as, vector_answer}
 
 -- symbols of a width, where there are any
 abbrev pub Wide : ℕ → Option (List ℕ) → Type 0
@@ -36,31 +39,40 @@ Wide w (some s) = length s ≡ w
 pub vector-answer : (w : ℕ) (o : Option (List ℕ)) (c : ℕ) → Wide (suc w) o → vector_answer (change_of (suc w) o) c ≡ decoded_as (BitVector (suc w)) (vector_says o c)
 vector-answer zero none c h = refl
 vector-answer (suc w) none c h = refl
-vector-answer zero (some s) c h = ap (λ (n : ℕ). Change (value.SingleBit (record { 0 = get_or s 0 0 })) (states_of (max n c))) (sym (one_class s h))
-vector-answer (suc w) (some s) c h = ap (λ (n : ℕ). Change (value.MultiBit (states_of (class_of_all s))) (states_of (max n c))) (number-states (class_of_all s) (class-all-small s))
+vector-answer zero (some s) c h = ap (λ (n : ℕ). decoded_to (value.SingleBit (record { 0 = get_or s 0 0 })) (states_of (max n c))) (sym (one_class s h))
+vector-answer (suc w) (some s) c h = ap (λ (n : ℕ). decoded_to (value.MultiBit (states_of (class_of_all s))) (states_of (max n c))) (number-states (class_of_all s) (class-all-small s))
+
+-- equal answers say the same
+abbrev change_in : ChangeValue → Result DecodedChange Refusal → ChangeValue
+change_in v (Ok d) = d.change
+change_in v (Err r) = v
+
+pub same-change : {v x : ChangeValue} {t u : States} → decoded_to v t ≡ decoded_to x u → v ≡ x
+same-change {v} e = ap (change_in v) e
 
 -- what an answer of each shape says of the symbols
-pub no-event : {A : Type 0} (w : ℕ) (o : Option (List ℕ)) (c : ℕ) (t : States) → decoded_as (BitVector (suc w)) (vector_says o c) ≡ Change value.Event t → A
+pub no-event : {A : Type 0} (w : ℕ) (o : Option (List ℕ)) (c : ℕ) (t : States) → decoded_as (BitVector (suc w)) (vector_says o c) ≡ decoded_to value.Event t → A
 no-event w none c t e = let z : ◌≡◌ {A = ℕ} 0 1 = cc in absurd (omega arith)
-no-event zero (some s) c t e = let z : ◌≡◌ {A = ℕ} 0 1 = cc in absurd (omega arith)
-no-event (suc w) (some s) c t e = let z : ◌≡◌ {A = ℕ} 0 1 = cc in absurd (omega arith)
+no-event zero (some s) c t e = let q = same-change e in let z : ◌≡◌ {A = ℕ} 0 1 = cc in absurd (omega arith)
+no-event (suc w) (some s) c t e = let q = same-change e in let z : ◌≡◌ {A = ℕ} 0 1 = cc in absurd (omega arith)
 
-pub no-real : {A : Type 0} (w : ℕ) (o : Option (List ℕ)) (c b : ℕ) (t : States) → decoded_as (BitVector (suc w)) (vector_says o c) ≡ Change (value.Real b) t → A
+pub no-real : {A : Type 0} (w : ℕ) (o : Option (List ℕ)) (c b : ℕ) (t : States) → decoded_as (BitVector (suc w)) (vector_says o c) ≡ decoded_to (value.Real b) t → A
 no-real w none c b t e = let z : ◌≡◌ {A = ℕ} 0 1 = cc in absurd (omega arith)
-no-real zero (some s) c b t e = let z : ◌≡◌ {A = ℕ} 0 1 = cc in absurd (omega arith)
-no-real (suc w) (some s) c b t e = let z : ◌≡◌ {A = ℕ} 0 1 = cc in absurd (omega arith)
+no-real zero (some s) c b t e = let q = same-change e in let z : ◌≡◌ {A = ℕ} 0 1 = cc in absurd (omega arith)
+no-real (suc w) (some s) c b t e = let q = same-change e in let z : ◌≡◌ {A = ℕ} 0 1 = cc in absurd (omega arith)
 
 pub record OneBit (w : ℕ) (o : Option (List ℕ)) (b : Bit) : Type 0 where
   pub width : w ≡ 0
   pub said : o ≡ some (b.0 ∷ [])
 
 pub one_bit : (w : ℕ) (o : Option (List ℕ)) (c : ℕ) (b : Bit) (t : States) → Wide (suc w) o
-    → decoded_as (BitVector (suc w)) (vector_says o c) ≡ Change (value.SingleBit b) t → OneBit w o b
+    → decoded_as (BitVector (suc w)) (vector_says o c) ≡ decoded_to (value.SingleBit b) t → OneBit w o b
 one_bit w none c b t h e = let z : ◌≡◌ {A = ℕ} 0 1 = cc in absurd (omega arith)
 one_bit zero (some s) c b t h e =
+    let q = same-change e in
     let first : get_or s 0 0 ≡ b.0 = cc in
     record { width = refl; said = ap some (one-element s h ∙ ap (λ (n : ℕ). n ∷ []) first) }
-one_bit (suc w) (some s) c b t h e = let z : ◌≡◌ {A = ℕ} 0 1 = cc in absurd (omega arith)
+one_bit (suc w) (some s) c b t h e = let q = same-change e in let z : ◌≡◌ {A = ℕ} 0 1 = cc in absurd (omega arith)
 
 pub record ManyBits (w : ℕ) (o : Option (List ℕ)) (x : States) : Type 0 where
   pub symbols : List ℕ
@@ -68,10 +80,11 @@ pub record ManyBits (w : ℕ) (o : Option (List ℕ)) (x : States) : Type 0 wher
   pub said : o ≡ some symbols
   pub class : class_of_all symbols ≡ class_number x
 
-pub many-bits : (w : ℕ) (o : Option (List ℕ)) (c : ℕ) (x t : States) → decoded_as (BitVector (suc w)) (vector_says o c) ≡ Change (value.MultiBit x) t → ManyBits w o x
+pub many-bits : (w : ℕ) (o : Option (List ℕ)) (c : ℕ) (x t : States) → decoded_as (BitVector (suc w)) (vector_says o c) ≡ decoded_to (value.MultiBit x) t → ManyBits w o x
 many-bits w none c x t e = let z : ◌≡◌ {A = ℕ} 0 1 = cc in absurd (omega arith)
-many-bits zero (some s) c x t e = let z : ◌≡◌ {A = ℕ} 0 1 = cc in absurd (omega arith)
+many-bits zero (some s) c x t e = let q = same-change e in let z : ◌≡◌ {A = ℕ} 0 1 = cc in absurd (omega arith)
 many-bits (suc w) (some s) c x t e =
+    let q = same-change e in
     let same : states_of (class_of_all s) ≡ x = cc in
     record { symbols = s; width = omega arith; said = refl; class = sym (number-states (class_of_all s) (class-all-small s)) ∙ ap class_number same }
 

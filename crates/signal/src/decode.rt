@@ -3,7 +3,7 @@ use value::states::States;
 use value::symbol::Bit;
 
 // What a change says, but for the symbols of a wider vector, of which the class is here.
-#[derive(Clone, Copy)]
+#[derive(Clone, Copy, PartialEq, Eq, Debug)]
 pub enum ChangeValue {
     Event,
     SingleBit(Bit),
@@ -11,9 +11,9 @@ pub enum ChangeValue {
     Real(u64),
 }
 
-// The value and the class that the top class is raised to at least, or a refusal's number.
-#[derive(Clone, Copy)]
-pub enum DecodedChange {
-    Change(ChangeValue, States),
-    Refused(u32),
+// What a change says, and the class that the top class is raised to at least.
+#[derive(Clone, Copy, PartialEq, Eq, Debug)]
+pub struct DecodedChange {
+    pub change: ChangeValue,
+    pub states: States,
 }

@@ -3,7 +3,7 @@ ghost use Rattle.std.specs.Prelude.{◌≡◌};
 ghost use Rattle.signal.specs.Kind.{width_of, absent, known_kind};
 
 // A vector of width 0 is an event.
-#[derive(Clone, Copy)]
+#[derive(Clone, Copy, PartialEq, Eq, Debug)]
 pub enum SignalEncoding {
     BitVector(u32),
     Real,
@@ -25,11 +25,7 @@ impl SignalEncoding {
     pub fn is_absent(self) -> bool
         ensures { result ≡ absent self }
     {
-        match self {
-            SignalEncoding::BitVector(_) => false,
-            SignalEncoding::Real => false,
-            SignalEncoding::Absent => true,
-        }
+        matches!(self, SignalEncoding::Absent)
     }
 }
 

@@ -8,5 +8,5 @@ pub mod decode;
 pub mod kind;
 
 // A signal by its number.
-#[derive(Clone, Copy)]
+#[derive(Clone, Copy, PartialEq, Eq, Debug)]
 pub struct SignalRef(pub u32);

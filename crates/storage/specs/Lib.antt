@@ -1,1 +1,2 @@
 pub mod Storage
+pub mod Stored

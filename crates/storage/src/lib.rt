@@ -1,19 +1,71 @@
-// Signal records stored as numbers of 64 bits, in lent memory.
+// How a signal's record is stored in lent memory: as it is, or as a number of 64 bits.
 //
-// The contracts cite specs/Storage.antt; that every number is a record, and no two the same, is proved in
-// proofs/StorageLaws.antt. An index above 5,592,404 has not a number for each class; a recording's are below 65,535.
+// Code over stored records is written once, over `StoredRecord` (crates records, encoder). The contracts cite specs/Storage.antt; that every
+// number is a record, and no two the same, is proved in proofs/StorageLaws.antt. An index above 5,592,404 has not a number for each class; a
+// recording's are below 65,535.
 #![tactic(auto)]
 
-ghost use Rattle.std.specs.Prelude.{◌≡◌, get_or, set};
-ghost use Rattle.recording.specs.Memory.{record_of};
-ghost use Rattle.recording.specs.Refusals.{any_bad};
-ghost use Rattle.storage.specs.Storage.{record_from, number_from, records_of, Storable};
+ghost use Rattle.std.specs.Prelude.{◌≡◌};
+ghost use Rattle.recording.specs.declared.SignalRecord.{SignalRecord};
+ghost use Rattle.storage.specs.Storage.{record_from, number_from, Storable};
+ghost use Rattle.storage.specs.Stored.{FitLaws, Any, any_laws, storable_laws};
 
 use image::kind::{kind_from, kind_number};
-use recording::{SignalRecord, absent_record, bad_record};
-use signal::SignalRef;
-use signal::kind::SignalEncoding;
+use recording::SignalRecord;
 use value::states::States;
+
+// A value that stands for a signal's record.
+pub trait StoredRecord: Copy {
+    // The record that it stands for.
+    ghost stands_for: { Self → SignalRecord };
+
+    // The records that can be stored.
+    ghost Fits: { SignalRecord → Type 0 };
+
+    fn load(self) -> SignalRecord
+        ensures { (result ≡ stands_for self) × Fits result };
+
+    fn store(record: SignalRecord) -> Self
+        requires { Fits «record» }
+        ensures { stands_for result ≡ «record» };
+
+    // With a record that can be stored, so can what a recording makes of it.
+    ghost laws: { FitLaws Fits };
+}
+
+// A record that is stored as it is.
+impl StoredRecord for SignalRecord {
+    ghost stands_for = { λ r. r };
+
+    ghost Fits = { Any };
+
+    ghost laws = { any_laws };
+
+    fn load(self) -> SignalRecord {
+        self
+    }
+
+    fn store(record: SignalRecord) -> SignalRecord {
+        record
+    }
+}
+
+// A record that is stored as a number of 64 bits.
+impl StoredRecord for u64 {
+    ghost stands_for = { record_from };
+
+    ghost Fits = { Storable };
+
+    ghost laws = { storable_laws };
+
+    fn load(self) -> SignalRecord {
+        record_from(self)
+    }
+
+    fn store(record: SignalRecord) -> u64 {
+        number_from(record)
+    }
+}
 
 // The record that a number stands for: every number is one.
 pub fn record_from(n: u64) -> SignalRecord
@@ -22,7 +74,7 @@ pub fn record_from(n: u64) -> SignalRecord
     let high = n / 4294967296;
     let kind = kind_from((n % 4294967296) as u32);
     let counted = high / 256;
-    let top = States::from_number((counted % 3) as u8);
+    let top = States::from_number((counted % 3) as u32);
     SignalRecord {
         kind,
         index: (counted / 3) as u32,
@@ -38,50 +90,6 @@ pub fn number_from(record: SignalRecord) -> u64
 {
     let kind = record.kind;
     let class = record.top;
-    let counted = 3 * (record.index as u64) + class.number() as u64;
-    kind_number(kind) as u64 + 4294967296 * (record.probe as u64 + 256 * counted)
-}
-
-// Where a signal's record stands.
-fn place_of(signal: SignalRef) -> usize
-    ensures { result ≡ signal.0 }
-{
-    signal.0 as usize
-}
-
-// A signal's record; past the records stands an absent one.
-pub fn find_record(records: &[u64], signal: SignalRef) -> SignalRecord
-    ensures { (result ≡ get_or (records_of records.now) signal.0 (record_of SignalEncoding.Absent 0 States.Two 0)) × Storable result }
-{
-    let at = place_of(signal);
-    if records.len() <= at {
-        return absent_record();
-    }
-    record_from(records[at])
-}
-
-// Stores a signal's record; past the records nothing is written.
-pub fn put_record(records: &mut [u64], signal: SignalRef, record: SignalRecord)
-    requires { Storable «record» }
-    ensures { records_of records.new ≡ set (records_of records.old) signal.0 «record» }
-{
-    let at = place_of(signal);
-    if at < records.len() {
-        records[at] = number_from(record);
-    }
-}
-
-// A start refuses one of the records: it has a kind that no signal can have, or names no probe.
-pub fn has_bad_record(records: &[u64]) -> bool
-    ensures { result ≡ any_bad (records_of records.now) }
-{
-    let mut i = 0;
-    while i < records.len() {
-        let record = record_from(records[i]);
-        if bad_record(record) {
-            return true;
-        }
-        i += 1;
-    }
-    false
+    let counted = 3 * u64::from(record.index) + u64::from(class.number());
+    u64::from(kind_number(kind)) + 4294967296 * (u64::from(record.probe) + 256 * counted)
 }

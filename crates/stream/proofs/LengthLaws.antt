@@ -14,12 +14,11 @@ use Rattle.packed.specs.Packed.{packed, packed_length}
 use Rattle.packed.proofs.PackedLaws.{length-packed}
 use Rattle.signal.specs.Kind.{width_of}
 use Rattle.signal.specs.Content.{Content, happened, symbols, bits, ContentFits, Given, GivenFits, Decoded, refuse, accept, content_of, decode}
-use Rattle.signal.specs.Answer.{value_of, decoded_as}
+use Rattle.signal.specs.Answer.{decoded_to, value_of, decoded_as}
 use Rattle.signal.specs.declared.kind.SignalEncoding.{SignalEncoding}
 use Rattle.signal.specs.declared.kind.SignalEncoding.TheVariants.{BitVector, Real, Absent}
 use Rattle.signal.specs.declared.decode.ChangeValue.{ChangeValue}
-use Rattle.signal.specs.declared.decode.DecodedChange.TheVariants.{Change}
-use Rattle.signal.proofs.DecodeLaws.{accepted}
+use Rattle.signal.proofs.DecodeLaws.{accepted, same-change}
 use Rattle.stream.specs.Stream.{change_bytes}
 use Rattle.stream.specs.Answer.{change_length, Says, said_bytes}
 
@@ -45,8 +44,8 @@ pub says-length : (k : SignalEncoding) (d : ℕ) (g : Given) (v : ChangeValue) �
     → length (said_bytes k d g) ≡ change_length (width_of k) d v
 says-length k d g v f (t, e) = by (decode k g) refl e
   where
-    by : (x : Decoded) → decode k g ≡ x → decoded_as k x ≡ Change v t → length (change_bytes k d (content_of x)) ≡ change_length (width_of k) d v
+    by : (x : Decoded) → decode k g ≡ x → decoded_as k x ≡ decoded_to v t → length (change_bytes k d (content_of x)) ≡ change_length (width_of k) d v
     by (refuse n) q e = let z : ◌≡◌ {A = ℕ} 0 1 = cc in absurd (omega arith)
     by (accept c u) q e =
-        let same : value_of k c ≡ v = cc in
+        let same = same-change e in
         change-length k d c (accepted k g c u f q).fits ∙ ap (change_length (width_of k) d) same

@@ -14,10 +14,8 @@ use Rattle.lists.specs.Got.{Got, bad, got}
 use Rattle.lists.specs.Bytes.{Bytes}
 use Rattle.lists.proofs.BytesLaws.{drop-bytes}
 use Rattle.lists.proofs.ChoiceLaws.{both_hold}
-use Rattle.numbers.specs.Leb128.{leb_of, read_leb, leb_at}
+use Rattle.numbers.specs.Leb128.{Leb128, leb_of, read_leb, leb_at}
 use Rattle.numbers.specs.LittleEndian.{unle}
-use Rattle.numbers.specs.declared.leb128.Leb128.{Leb128}
-use Rattle.numbers.specs.declared.leb128.Leb128.TheVariants.{Value, Bad}
 use Rattle.numbers.proofs.Leb128Trip.{read_is, get-put, put-get}
 use Rattle.value.specs.Class.{class_number, states_of, class_of_all, all_symbols, largest_class}
 use Rattle.value.specs.declared.states.States.{States}
@@ -30,23 +28,23 @@ use Rattle.signal.specs.declared.decode.ChangeValue.{ChangeValue}
 use Rattle.signal.specs.declared.decode.ChangeValue.TheVariants as value
 use Rattle.signal.specs.Content.{Content, happened, symbols, bits}
 use Rattle.signal.specs.Answer.{value_of}
-use Rattle.stream.specs.declared.read.ReadChange.TheVariants as read
+use Rattle.std.specs.Prelude.{Some, None}
 use Rattle.stream.specs.Stream.{Change, change, max_delta, found, own_class, wide_after, value_after, read_change, after_number}
-use Rattle.stream.specs.Answer.{read_as, change_at, answered, bit_answered}
+use Rattle.stream.specs.Answer.{read_of, read_as, change_at, answered, bit_answered}
 use Rattle.stream.proofs.StreamTrip.{number-there}
 
 -- d in range
-pub range-over : (d : ℕ) (v : ChangeValue) (n : ℕ) → 65534 < d → read.Bad ≡ answered d v n
+pub range-over : (d : ℕ) (v : ChangeValue) (n : ℕ) → 65534 < d → None ≡ answered d v n
 range-over d v n h = rw (lt-leb d 65534 h) refl
 
-pub range-in : (d : ℕ) (v : ChangeValue) (n : ℕ) → d ≤ 65534 → read.Change d v n ≡ answered d v n
+pub range-in : (d : ℕ) (v : ChangeValue) (n : ℕ) → d ≤ 65534 → read_of d v n ≡ answered d v n
 range-in d v n h = rw (le-leb d 65534 h) refl
 
 -- a change with its d in range, as the code answers it
 found_as : (k : SignalEncoding) (d n : ℕ) (c : Content) (r : List ℕ) → read_as k n (found d c r) ≡ answered d (value_of k c) (n - length r)
 found_as k d n c r = by (leb d max_delta)
   where
-    by : (t : Bool) → read_as k n (pick t (got (change d c) r) bad) ≡ pick t (read.Change d (value_of k c) (n - length r)) read.Bad
+    by : (t : Bool) → read_as k n (pick t (got (change d c) r) bad) ≡ pick t (read_of d (value_of k c) (n - length r)) None
     by true = refl
     by false = refl
 
@@ -58,7 +56,7 @@ rest-after : (s : List ℕ) (at n : ℕ) → at + n ≤ length s → length s - 
 rest-after s at n h = ap (λ (l : List ℕ). length s - length l) (drop-drop n at s) ∙ rest_at s (at + n) h
 
 -- width 1
-pub bit-over : (v n : ℕ) → 8 < v % 16 → read.Bad ≡ bit_answered v n
+pub bit-over : (v n : ℕ) → 8 < v % 16 → None ≡ bit_answered v n
 bit-over v n h = rw (lt-leb (v % 16) 8 h) refl
 
 pub bit_in : (v n : ℕ) → v % 16 ≤ 8 → answered (v / 16) (value.SingleBit (record { 0 = v % 16 })) n ≡ bit_answered v n
@@ -68,7 +66,7 @@ pub bit-value : (s : List ℕ) (at v : ℕ) → at ≤ length s → bit_answered
 unfolding value_after
 bit-value s at v h = by (leb (v % 16) 8)
   where
-    by : (t : Bool) → pick t (answered (v / 16) (value.SingleBit (record { 0 = v % 16 })) at) read.Bad
+    by : (t : Bool) → pick t (answered (v / 16) (value.SingleBit (record { 0 = v % 16 })) at) None
         ≡ read_as (BitVector 1) (length s) (pick t (found (v / 16) (symbols (v % 16 ∷ [])) (drop at s)) bad)
     by true = sym (found_as (BitVector 1) (v / 16) (length s) (symbols (v % 16 ∷ [])) (drop at s) ∙ ap (answered (v / 16) (value.SingleBit (record { 0 = v % 16 }))) (rest_at s at h))
     by false = refl
@@ -78,7 +76,7 @@ unfolding value_after
 event-value s at v h = sym (found_as (BitVector 0) v (length s) happened (drop at s) ∙ ap (answered v value.Event) (rest_at s at h))
 
 -- reals
-pub real-short : (s : List ℕ) (at v : ℕ) → length s - at < 8 → read.Bad ≡ read_as Real (length s) (value_after Real v (drop at s))
+pub real-short : (s : List ℕ) (at v : ℕ) → length s - at < 8 → None ≡ read_as Real (length s) (value_after Real v (drop at s))
 unfolding value_after
 real-short s at v h = rw (lt-leb 8 (length (drop at s)) (omega (arith, length-drop at s))) refl
 
@@ -111,7 +109,7 @@ own-two w b =
 -- wider vectors
 module _ (s : List ℕ) (at v w : ℕ) (inside : at ≤ length s) where
   -- class 3 is no class
-  pub wide-three : v % 4 ≡ 3 → read.Bad ≡ read_as (BitVector w) (length s) (wide_after w v (drop at s))
+  pub wide-three : v % 4 ≡ 3 → None ≡ read_as (BitVector w) (length s) (wide_after w v (drop at s))
   wide-three h =
       let u : List ℕ = unpacked w (v % 4) (take (packed_length w (v % 4)) (drop at s)) in
       let small = class-all-small u in
@@ -120,20 +118,20 @@ module _ (s : List ℕ) (at v w : ℕ) (inside : at ≤ length s) where
       (refused (leb (packed_length w (v % 4)) (length (drop at s))) (top_clear w (v % 4) (take (packed_length w (v % 4)) (drop at s))) (all_symbols u)
       (found (v / 4) (symbols u) (drop (packed_length w (v % 4)) (drop at s))))
     where
-      refused : (a b c : Bool) (g : Got Change) → read.Bad ≡ read_as (BitVector w) (length s) (pick (a && (b && (c && false))) g bad)
+      refused : (a b c : Bool) (g : Got Change) → None ≡ read_as (BitVector w) (length s) (pick (a && (b && (c && false))) g bad)
       refused true true true g = refl
       refused true true false g = refl
       refused true false c g = refl
       refused false b c g = refl
 
-  pub wide_short : (n : ℕ) → n ≡ packed_length w (v % 4) → length s - at < n → read.Bad ≡ read_as (BitVector w) (length s) (wide_after w v (drop at s))
+  pub wide_short : (n : ℕ) → n ≡ packed_length w (v % 4) → length s - at < n → None ≡ read_as (BitVector w) (length s) (wide_after w v (drop at s))
   wide_short n e h = rw (← e, lt-leb n (length (drop at s)) (omega (arith, length-drop at s))) refl
 
   pub wide-other : (n : ℕ) (t : Bool) → n ≡ packed_length w (v % 4) → t ≡ own_class w (v % 4) (take n (drop at s)) → t ≡ false
-      → read.Bad ≡ read_as (BitVector w) (length s) (wide_after w v (drop at s))
+      → None ≡ read_as (BitVector w) (length s) (wide_after w v (drop at s))
   wide-other n t e f g = rw (← e, ← f, g) (by (leb n (length (drop at s))) (found (v / 4) (symbols (unpacked w (v % 4) (take n (drop at s)))) (drop n (drop at s))))
     where
-      by : (a : Bool) (x : Got Change) → read.Bad ≡ read_as (BitVector w) (length s) (pick (a && false) x bad)
+      by : (a : Bool) (x : Got Change) → None ≡ read_as (BitVector w) (length s) (pick (a && false) x bad)
       by true x = refl
       by false x = refl
 
@@ -161,27 +159,27 @@ vector-wide zero v r a b = absurd (a refl)
 vector-wide (suc zero) v r a b = absurd (b refl)
 vector-wide (suc (suc w)) v r a b = refl
 
-pub absent-value : (n v : ℕ) (r : List ℕ) → read.Bad ≡ read_as Absent n (value_after Absent v r)
+pub absent-value : (n v : ℕ) (r : List ℕ) → None ≡ read_as Absent n (value_after Absent v r)
 unfolding value_after
 absent-value n v r = refl
 
 -- by the number
-pub number-value : (k : SignalEncoding) (s : List ℕ) (at v n : ℕ) → Bytes s → leb_at s at ≡ Value v n
+pub number-value : (k : SignalEncoding) (s : List ℕ) (at v n : ℕ) → Bytes s → leb_at s at ≡ Some (v, n)
     → read_as k (length s) (value_after k v (drop n s)) ≡ change_at k s at
 number-value k s at v n y e =
     let w = put-get s at v n y e in
     ap (read_as k (length s)) (sym (ap (read_change k) w.form ∙ number-there k v (drop n s) w.small))
 
-pub number-inside : (s : List ℕ) (at v n : ℕ) → Bytes s → leb_at s at ≡ Value v n → n ≤ length s
+pub number-inside : (s : List ℕ) (at v n : ℕ) → Bytes s → leb_at s at ≡ Some (v, n) → n ≤ length s
 number-inside s at v n y e = (put-get s at v n y e).inside
 
-pub number-bad : (k : SignalEncoding) (s : List ℕ) (at : ℕ) → Bytes s → leb_at s at ≡ Bad → read.Bad ≡ change_at k s at
+pub number-bad : (k : SignalEncoding) (s : List ℕ) (at : ℕ) → Bytes s → leb_at s at ≡ None → None ≡ change_at k s at
 unfolding read_change
 number-bad k s at y e = by (read_leb 5 0 (drop at s)) refl
   where
-    by : (l : Leb128) → read_leb 5 0 (drop at s) ≡ l → read.Bad ≡ read_as k (length s) (after_number k (drop at s) l)
-    by Bad q = refl
-    by (Value v n) q =
+    by : (l : Leb128) → read_leb 5 0 (drop at s) ≡ l → None ≡ read_as k (length s) (after_number k (drop at s) l)
+    by None q = refl
+    by (Some (v, n)) q =
         let w = read_is 5 0 v n (drop at s) (drop-bytes at s y) q in
         let r = get-put s at v (drop (length (leb_of v)) (drop at s)) w.small w.form in
         let z : ◌≡◌ {A = ℕ} 0 1 = cc in
@@ -218,5 +216,5 @@ module _ (k : SignalEncoding) (s : List ℕ) (at v : ℕ) (inside : at ≤ lengt
   pub kind-real : k ≡ Real → read_as Real (length s) (value_after Real v (drop at s)) ≡ read_as k (length s) (value_after k v (drop at s))
   kind-real e = rw e refl
 
-  pub kind-absent : k ≡ Absent → read.Bad ≡ read_as k (length s) (value_after k v (drop at s))
+  pub kind-absent : k ≡ Absent → None ≡ read_as k (length s) (value_after k v (drop at s))
   kind-absent e = rw e (absent-value (length s) v (drop at s))

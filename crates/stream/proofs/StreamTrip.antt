@@ -11,16 +11,15 @@ use borrow.Author.Tests.{le-leb, leb-true, eq-eqb, eqb-true}
 use lib.Dec.{leb, eqb}
 use lib.ListN.{length, take, drop, get_or, length-append, take-append-drop}
 use lib.Seq.{drop-append_seam, length-take-le, take_at, drop_at}
+use Rattle.std.specs.Prelude.{Some, None}
 use Rattle.lists.specs.Got.{got}
 use Rattle.lists.specs.Bytes.{Bytes}
 use Rattle.lists.proofs.BytesLaws.{drop-bytes, take-bytes}
 use Rattle.lists.proofs.ChoiceLaws.{both_hold}
 use Rattle.lists.proofs.SmallLaws.{one-element}
 use Rattle.lists.proofs.GotLaws.{bad-got, by-test}
-use Rattle.numbers.specs.Leb128.{leb_of, read_leb}
+use Rattle.numbers.specs.Leb128.{Leb128, leb_of, read_leb}
 use Rattle.numbers.specs.LittleEndian.{le, unle}
-use Rattle.numbers.specs.declared.leb128.Leb128.{Leb128}
-use Rattle.numbers.specs.declared.leb128.Leb128.TheVariants.{Value, Bad}
 use Rattle.numbers.proofs.Leb128Trip.{read_of, read_is, Written}
 use Rattle.numbers.proofs.LittleEndianLaws.{length-le, unle-le, le-unle, unle-lt}
 use Rattle.value.specs.Class.{class_of_all, all_symbols}
@@ -204,9 +203,9 @@ unfolding read_change Back
 written_read k s x r y e = by (read_leb 5 0 s) refl e
   where
     by : (l : Leb128) → read_leb 5 0 s ≡ l → after_number k s l ≡ got x r → WrittenAs k s x r
-    by (Value v n) q e =
+    by (Some (v, n)) q e =
         let w : Written 0 v n s = read_is 5 0 v n s y q in
         let past : n ≡ length (leb_of v) = w.past ∙ zero-add (length (leb_of v)) in
         subst (λ (l : List ℕ). WrittenAs k l x r) (sym (w.form ∙ ap (λ (m : ℕ). leb_of v ++ drop m s) (sym past)))
         (value-back k v (drop n s) x r (drop-bytes n s y) e)
-    by Bad q e = bad-got e
+    by None q e = bad-got e

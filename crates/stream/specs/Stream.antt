@@ -3,13 +3,11 @@
 -- Laws (proofs/StreamTrip): what is written is read back, and what is read was written so: shortest numbers, the value's own class, unused
 -- top bits zero, symbols at most 8.
 -- Assumes nothing.
-use Rattle.std.specs.Prelude.{ℕ, zero, suc, ◌+◌, ◌*◌, ◌/◌, ◌%◌, ◌≤◌, Bool, ◌&&◌, List, [], ◌∷◌, ◌++◌, length, take, drop, get_or, leb, eqb}
+use Rattle.std.specs.Prelude.{ℕ, zero, suc, ◌+◌, ◌*◌, ◌/◌, ◌%◌, ◌≤◌, Bool, ◌&&◌, List, [], ◌∷◌, ◌++◌, length, take, drop, get_or, leb, eqb, Some, None}
 use Rattle.lists.specs.Choice.{pick}
 use Rattle.lists.specs.Got.{Got, bad, got}
-use Rattle.numbers.specs.Leb128.{leb_of, read_leb}
+use Rattle.numbers.specs.Leb128.{Leb128, leb_of, read_leb}
 use Rattle.numbers.specs.LittleEndian.{le, unle}
-use Rattle.numbers.specs.declared.leb128.Leb128.{Leb128}
-use Rattle.numbers.specs.declared.leb128.Leb128.TheVariants.{Value, Bad}
 use Rattle.value.specs.Class.{class_of_all, all_symbols}
 use Rattle.packed.specs.Packed.{packed, unpacked, packed_length, top_clear}
 use Rattle.signal.specs.declared.kind.SignalEncoding.{SignalEncoding}
@@ -73,8 +71,8 @@ value_after Real v r = pick (leb 8 (length r)) (found v (bits (unle (take 8 r)))
 value_after Absent v r = bad
 
 abbrev pub after_number : SignalEncoding → List ℕ → Leb128 → Got Change
-after_number k s (Value v n) = value_after k v (drop n s)
-after_number k s Bad = bad
+after_number k s (Some (v, n)) = value_after k v (drop n s)
+after_number k s None = bad
 
 -- the change at the front of a stream
 unfoldable pub read_change : SignalEncoding → List ℕ → Got Change

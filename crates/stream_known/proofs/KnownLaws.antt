@@ -15,22 +15,21 @@ use Rattle.signal.specs.declared.kind.SignalEncoding.{SignalEncoding}
 use Rattle.signal.specs.declared.kind.SignalEncoding.TheVariants.{BitVector, Real}
 use Rattle.signal.specs.declared.decode.ChangeValue.{ChangeValue}
 use Rattle.signal.specs.declared.decode.ChangeValue.TheVariants as value
-use Rattle.stream.specs.declared.read.ReadChange.TheVariants as read
 use Rattle.stream.specs.Stream.{own_class, wide_after, value_after}
-use Rattle.stream.specs.Answer.{read_as, answered, bit_answered, IsChange}
+use Rattle.stream.specs.Answer.{read_of, read_as, answered, bit_answered, IsChange}
 use Rattle.stream.proofs.ReadLaws.{range-over, range-in, bit-over, bit_in, wide-three, wide_short, wide-other, wide-own, real-short, real-long, kind-event, kind-bit, kind-wide, kind-real}
 
-pub known_in : (d : ℕ) (v : ChangeValue) (n : ℕ) → IsChange (answered d v n) → read.Change d v n ≡ answered d v n
+pub known_in : (d : ℕ) (v : ChangeValue) (n : ℕ) → IsChange (answered d v n) → read_of d v n ≡ answered d v n
 known_in d v n k = by (dec_lt 65534 d)
   where
-    by : Dec (65534 < d) → read.Change d v n ≡ answered d v n
+    by : Dec (65534 < d) → read_of d v n ≡ answered d v n
     by (yes l) = absurd (k (sym (range-over d v n l)))
     by (no g) = range-in d v n (omega arith)
 
-pub known-bit : (v n : ℕ) → IsChange (bit_answered v n) → read.Change (v / 16) (value.SingleBit (record { 0 = v % 16 })) n ≡ bit_answered v n
+pub known-bit : (v n : ℕ) → IsChange (bit_answered v n) → read_of (v / 16) (value.SingleBit (record { 0 = v % 16 })) n ≡ bit_answered v n
 known-bit v n k = by (dec_lt 8 (v % 16))
   where
-    by : Dec (8 < v % 16) → read.Change (v / 16) (value.SingleBit (record { 0 = v % 16 })) n ≡ bit_answered v n
+    by : Dec (8 < v % 16) → read_of (v / 16) (value.SingleBit (record { 0 = v % 16 })) n ≡ bit_answered v n
     by (yes l) = absurd (k (sym (bit-over v n l)))
     by (no g) =
         let e = bit_in v n (omega arith) in
@@ -40,7 +39,7 @@ known-bit v n k = by (dec_lt 8 (v % 16))
 pub record Wide (s : List ℕ) (at v w : ℕ) : Type 0 where
   pub class : v % 4 ≡ 3 → ⊥
   pub room : packed_length w (v % 4) ≤ length s - at
-  pub change : read.Change (v / 4) (value.MultiBit (states_of (v % 4))) (at + packed_length w (v % 4)) ≡ read_as (BitVector w) (length s) (wide_after w v (drop at s))
+  pub change : read_of (v / 4) (value.MultiBit (states_of (v % 4))) (at + packed_length w (v % 4)) ≡ read_as (BitVector w) (length s) (wide_after w v (drop at s))
 
 pub known-wide : (s : List ℕ) (at v w : ℕ) → at ≤ length s → 1 < w → IsChange (read_as (BitVector w) (length s) (wide_after w v (drop at s))) → Wide s at v w
 known-wide s at v w i h k = record { class = class; room = room; change = known_in (v / 4) (value.MultiBit (states_of (v % 4))) (at + n) (λ b. k (sym own ∙ b)) ∙ own }
@@ -66,10 +65,10 @@ known-wide s at v w i h k = record { class = class; room = room; change = known_
     own = by-own (own_class w (v % 4) (take n (drop at s))) refl
 
 pub known-real : (s : List ℕ) (at v : ℕ) → at ≤ length s → IsChange (read_as Real (length s) (value_after Real v (drop at s)))
-    → (8 ≤ length s - at) × (read.Change v (value.Real (unle (take 8 (drop at s)))) (at + 8) ≡ read_as Real (length s) (value_after Real v (drop at s)))
+    → (8 ≤ length s - at) × (read_of v (value.Real (unle (take 8 (drop at s)))) (at + 8) ≡ read_as Real (length s) (value_after Real v (drop at s)))
 known-real s at v i k = by (dec_lt (length s - at) 8)
   where
-    by : Dec (length s - at < 8) → (8 ≤ length s - at) × (read.Change v (value.Real (unle (take 8 (drop at s)))) (at + 8) ≡ read_as Real (length s) (value_after Real v (drop at s)))
+    by : Dec (length s - at < 8) → (8 ≤ length s - at) × (read_of v (value.Real (unle (take 8 (drop at s)))) (at + 8) ≡ read_as Real (length s) (value_after Real v (drop at s)))
     by (yes l) = absurd (k (sym (real-short s at v l)))
     by (no g) =
         let e = real-long s at v i (omega arith) in
@@ -77,12 +76,12 @@ known-real s at v i k = by (dec_lt (length s - at) 8)
 
 -- by the kind, as the code knows it
 module _ (k : SignalEncoding) (s : List ℕ) (at v : ℕ) (inside : at ≤ length s) (h : IsChange (read_as k (length s) (value_after k v (drop at s)))) where
-  pub event-stands : (w : ℕ) → k ≡ BitVector w → w ≡ 0 → read.Change v value.Event at ≡ read_as k (length s) (value_after k v (drop at s))
+  pub event-stands : (w : ℕ) → k ≡ BitVector w → w ≡ 0 → read_of v value.Event at ≡ read_as k (length s) (value_after k v (drop at s))
   event-stands w e z =
       let q = kind-event k s at v inside w e z in
       known_in v value.Event at (λ b. h (sym q ∙ b)) ∙ q
 
-  pub bit-stands : (w : ℕ) → k ≡ BitVector w → w ≡ 1 → read.Change (v / 16) (value.SingleBit (record { 0 = v % 16 })) at ≡ read_as k (length s) (value_after k v (drop at s))
+  pub bit-stands : (w : ℕ) → k ≡ BitVector w → w ≡ 1 → read_of (v / 16) (value.SingleBit (record { 0 = v % 16 })) at ≡ read_as k (length s) (value_after k v (drop at s))
   bit-stands w e z =
       let q = kind-bit k s at v inside w e z in
       known-bit v at (λ b. h (sym q ∙ b)) ∙ q
@@ -93,7 +92,7 @@ module _ (k : SignalEncoding) (s : List ℕ) (at v : ℕ) (inside : at ≤ lengt
       let q = kind-wide k s at v inside w e a b in
       (known-wide s at v w inside (omega (arith, a, b)) (λ z. h (sym q ∙ z)), q)
 
-  pub real-stands : k ≡ Real → (8 ≤ length s - at) × (read.Change v (value.Real (unle (take 8 (drop at s)))) (at + 8) ≡ read_as k (length s) (value_after k v (drop at s)))
+  pub real-stands : k ≡ Real → (8 ≤ length s - at) × (read_of v (value.Real (unle (take 8 (drop at s)))) (at + 8) ≡ read_as k (length s) (value_after k v (drop at s)))
   real-stands e =
       let q = kind-real k s at v inside e in
       let r = known-real s at v inside (λ z. h (sym q ∙ z)) in

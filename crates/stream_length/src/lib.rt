@@ -9,7 +9,6 @@ ghost use Rattle.stream.specs.Stream.{max_delta};
 ghost use Rattle.stream.specs.Answer.{change_length, change_number, tail_length};
 
 use numbers::leb128::leb128_len;
-use numbers::wide;
 use packed_symbols::bytes_required;
 use signal::decode::ChangeValue;
 
@@ -20,8 +19,8 @@ pub fn change_number(d: u32, value: ChangeValue) -> u32
 {
     match value {
         ChangeValue::Event => d,
-        ChangeValue::SingleBit(bit) => d * 16 + wide(bit.0),
-        ChangeValue::MultiBit(states) => d * 4 + wide(states.number()),
+        ChangeValue::SingleBit(bit) => d * 16 + u32::from(bit.0),
+        ChangeValue::MultiBit(states) => d * 4 + u32::from(states.number()),
         ChangeValue::Real(_) => d,
     }
 }
@@ -31,8 +30,7 @@ fn tail_len(width: u32, value: ChangeValue) -> usize
     ensures { (result ≡ tail_length width value) × (result < 4294967296) }
 {
     match value {
-        ChangeValue::Event => 0,
-        ChangeValue::SingleBit(_) => 0,
+        ChangeValue::Event | ChangeValue::SingleBit(_) => 0,
         ChangeValue::MultiBit(states) => bytes_required(states, width),
         ChangeValue::Real(_) => 8,
     }

@@ -11,7 +11,7 @@ ghost use Rattle.stream.specs.Stream.{own_class, wide_after, value_after};
 ghost use Rattle.stream.specs.Answer.{read_as, change_at, answered, bit_answered};
 ghost use Rattle.signal.specs.declared.kind.SignalEncoding.TheVariants.{BitVector, Real};
 
-use numbers::leb128::{Leb128, get_leb128};
+use numbers::leb128::get_leb128;
 use numbers::little_endian::get_u64;
 use packed_class::{class_from, top_clear};
 use packed_symbols::bytes_required;
@@ -22,13 +22,17 @@ use value::states::States;
 use value::symbol::Bit;
 
 // No block has a larger index.
-fn in_range(d: u32, value: ChangeValue, next: usize) -> ReadChange
+fn in_range(d: u32, value: ChangeValue, next: usize) -> Option<ReadChange>
     ensures { result ≡ answered d value next }
 {
     if MAX_DELTA < d {
-        return ReadChange::Bad;
+        return None;
     }
-    ReadChange::Change(d, value, next)
+    Some(ReadChange {
+        delta: d,
+        value,
+        next,
+    })
 }
 
 // Whether bytes are symbols packed in their own class.
@@ -43,23 +47,23 @@ fn own_class(part: &[u8], width: u32, states: States) -> bool
 }
 
 // A wider vector's change of class Two, of which most are: every bit is a symbol, so only the unused top bits are looked at.
-fn read_two(s: &[u8], at: usize, v: u32, width: u32) -> ReadChange
+fn read_two(s: &[u8], at: usize, v: u32, width: u32) -> Option<ReadChange>
     requires { (at ≤ length s.now) × (1 < width) × (v % 4 ≡ 0) }
     ensures { result ≡ read_as (BitVector width) (length s.now) (wide_after width v (drop at s.now)) }
 {
     let size = bytes_required(States::Two, width);
     if s.len() - at < size {
-        return ReadChange::Bad;
+        return None;
     }
     let end = at + size;
     if !top_clear(&s[at..end], width, States::Two) {
-        return ReadChange::Bad;
+        return None;
     }
     in_range(v / 4, ChangeValue::MultiBit(States::Two), end)
 }
 
 // A wider vector's change whose number was v, before the place at.
-fn read_wide(s: &[u8], at: usize, v: u32, width: u32) -> ReadChange
+fn read_wide(s: &[u8], at: usize, v: u32, width: u32) -> Option<ReadChange>
     requires { (at ≤ length s.now) × (1 < width) }
     ensures { result ≡ read_as (BitVector width) (length s.now) (wide_after width v (drop at s.now)) }
 {
@@ -67,65 +71,57 @@ fn read_wide(s: &[u8], at: usize, v: u32, width: u32) -> ReadChange
         return read_two(s, at, v, width);
     }
     if v % 4 == 3 {
-        return ReadChange::Bad;
+        return None;
     }
-    let states = States::from_number((v % 4) as u8);
+    let states = States::from_number(v % 4);
     let size = bytes_required(states, width);
     if s.len() - at < size {
-        return ReadChange::Bad;
+        return None;
     }
     let end = at + size;
     if !own_class(&s[at..end], width, states) {
-        return ReadChange::Bad;
+        return None;
     }
     in_range(v / 4, ChangeValue::MultiBit(states), end)
 }
 
-fn read_bit(at: usize, v: u32) -> ReadChange
+fn read_bit(at: usize, v: u32) -> Option<ReadChange>
     ensures { result ≡ bit_answered v at }
 {
     if 8 < v % 16 {
-        return ReadChange::Bad;
+        return None;
     }
     in_range(v / 16, ChangeValue::SingleBit(Bit((v % 16) as u8)), at)
 }
 
-fn read_real(s: &[u8], at: usize, v: u32) -> ReadChange
+fn read_real(s: &[u8], at: usize, v: u32) -> Option<ReadChange>
     requires { at ≤ length s.now }
     ensures { result ≡ read_as Real (length s.now) (value_after Real v (drop at s.now)) }
 {
     if s.len() - at < 8 {
-        return ReadChange::Bad;
+        return None;
     }
     in_range(v, ChangeValue::Real(get_u64(s, at)), at + 8)
 }
 
 // What follows a change's number v from at on.
-fn read_value(s: &[u8], at: usize, v: u32, kind: SignalEncoding) -> ReadChange
+fn read_value(s: &[u8], at: usize, v: u32, kind: SignalEncoding) -> Option<ReadChange>
     requires { at ≤ length s.now }
     ensures { result ≡ read_as kind (length s.now) (value_after kind v (drop at s.now)) }
 {
     match kind {
-        SignalEncoding::BitVector(width) => {
-            if width == 0 {
-                return in_range(v, ChangeValue::Event, at);
-            }
-            if width == 1 {
-                return read_bit(at, v);
-            }
-            read_wide(s, at, v, width)
-        }
+        SignalEncoding::BitVector(0) => in_range(v, ChangeValue::Event, at),
+        SignalEncoding::BitVector(1) => read_bit(at, v),
+        SignalEncoding::BitVector(width) => read_wide(s, at, v, width),
         SignalEncoding::Real => read_real(s, at, v),
-        SignalEncoding::Absent => ReadChange::Bad,
+        SignalEncoding::Absent => None,
     }
 }
 
 // The change of a signal of a kind that stands at a place of a stream.
-pub fn read_change(s: &[u8], at: usize, kind: SignalEncoding) -> ReadChange
+pub fn read_change(s: &[u8], at: usize, kind: SignalEncoding) -> Option<ReadChange>
     ensures { result ≡ change_at kind s.now at }
 {
-    match get_leb128(s, at) {
-        Leb128::Value(v, next) => read_value(s, next, v, kind),
-        Leb128::Bad => ReadChange::Bad,
-    }
+    let (v, next) = get_leb128(s, at)?;
+    read_value(s, next, v, kind)
 }

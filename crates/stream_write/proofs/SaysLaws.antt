@@ -28,24 +28,23 @@ use Rattle.signal.specs.declared.kind.SignalEncoding.{SignalEncoding}
 use Rattle.signal.specs.declared.kind.SignalEncoding.TheVariants.{BitVector, Real, Absent}
 use Rattle.signal.specs.declared.decode.ChangeValue.{ChangeValue}
 use Rattle.signal.specs.declared.decode.ChangeValue.TheVariants as value
-use Rattle.signal.specs.declared.decode.DecodedChange.TheVariants.{Change, Refused}
 use Rattle.signal.specs.Kind.{width_of}
 use Rattle.signal.specs.Content.{happened, symbols, Given, vcd, raw, real, refuse, accept, content_of, vector_says, event_says, decode}
-use Rattle.signal.specs.Answer.{decoded_as}
-use Rattle.signal.proofs.DecodeLaws.{OneBit, one_bit, many-bits, no-event, no-real, vcd-wide, raw-wide}
+use Rattle.signal.specs.Answer.{decoded_to, decoded_as}
+use Rattle.signal.proofs.DecodeLaws.{same-change, OneBit, one_bit, many-bits, no-event, no-real, vcd-wide, raw-wide}
 use Rattle.stream.specs.Stream.{change_bytes}
 use Rattle.stream.specs.Answer.{Says, said_bytes}
 use Rattle.stream.proofs.StreamTrip.{first-symbol}
 
-refused : {A : Type 0} (n : ℕ) (v : ChangeValue) (t : States) → Refused n ≡ Change v t → A
+refused : {A : Type 0} (n : ℕ) (v : ChangeValue) (t : States) → decoded_as Absent (refuse n) ≡ decoded_to v t → A
 refused n v t e = let z : ◌≡◌ {A = ℕ} 0 1 = cc in absurd (omega arith)
 
 -- an event's value is no vector's
-no-shape : {A : Type 0} (l : List ℕ) (v : ChangeValue) (t : States) → (value.Event ≡ v → A) → decoded_as (BitVector zero) (event_says l) ≡ Change v t → A
+no-shape : {A : Type 0} (l : List ℕ) (v : ChangeValue) (t : States) → (value.Event ≡ v → A) → decoded_as (BitVector zero) (event_says l) ≡ decoded_to v t → A
 no-shape {A} l v t f e = by (leb (length l) 1) e
   where
-    by : (b : Bool) → decoded_as (BitVector zero) (pick b (accept happened 0) (refuse 6)) ≡ Change v t → A
-    by true e = let p : value.Event ≡ v = cc in f p
+    by : (b : Bool) → decoded_as (BitVector zero) (pick b (accept happened 0) (refuse 6)) ≡ decoded_to v t → A
+    by true e = f (same-change e)
     by false e = refused 6 v t e
 
 pub says-event : (k : SignalEncoding) (d : ℕ) (l : List ℕ) → Says k (vcd l) value.Event → said_bytes k d (vcd l) ≡ change_bytes (BitVector zero) d happened
@@ -87,7 +86,7 @@ unfolding decode
 says-bit k d (vcd l) b s = vcd-single k d l b s
 says-bit k d (raw c l) b s = raw-single k d c l b s
 says-bit (BitVector w) d (real n) b (t, e) = refused 5 (value.SingleBit b) t e
-says-bit Real d (real n) b (t, e) = let z : ◌≡◌ {A = ℕ} 0 1 = cc in absurd (omega arith)
+says-bit Real d (real n) b (t, e) = let q = same-change e in let z : ◌≡◌ {A = ℕ} 0 1 = cc in absurd (omega arith)
 says-bit Absent d (real n) b (t, e) = refused 4 (value.SingleBit b) t e
 
 -- the symbols of a wider vector stand in the bytes src

@@ -102,7 +102,7 @@ pub fn put_raw_change(
         ChangeValue::SingleBit(bit) => put_bit(out, at, d, bit),
         ChangeValue::MultiBit(states) => {
             let width = kind.width();
-            let claimed = States::from_class(claim);
+            let claimed = States::from_number(claim);
             let part = raw_part(value, bytes_required(claimed, width));
             put_vector(out, at, d, part, Notation::Packed(claimed), width, states)
         }

@@ -12,26 +12,18 @@ use std::io::{Read, Write};
 use std::rt::Env;
 
 pub fn byte_at(s: &[u8], at: usize) -> u8 {
-    if at < s.len() {
-        return s[at];
-    }
-    0
+    s.get(at).copied().unwrap_or(0)
 }
 
 // The bytes before a place.
 pub fn before(s: &[u8], end: usize) -> &[u8] {
-    if s.len() < end {
-        return s;
-    }
-    &s[0..end]
+    &s[..end.min(s.len())]
 }
 
 // The bytes from a place on.
 pub fn after(s: &[u8], start: usize) -> &[u8] {
-    if s.len() < start {
-        return s;
-    }
-    &s[start..]
+    let from = start.min(s.len());
+    &s[from..]
 }
 
 pub fn between(s: &[u8], start: usize, end: usize) -> &[u8] {
@@ -42,24 +34,16 @@ pub fn between(s: &[u8], start: usize, end: usize) -> &[u8] {
 pub fn past(s: &[u8], at: usize, stop: u8) -> usize
     ensures { at < length s.now → at < result }
 {
-    let mut i = at;
-    while i < s.len() {
-        let b = s[i];
-        i += 1;
-        if b == stop {
-            return i;
-        }
+    let from = at.min(s.len());
+    match s[from..].iter().position(|b| *b == stop) {
+        Some(n) => from + n + 1,
+        None => at.max(s.len()),
     }
-    i
 }
 
 // Word k of a line, from 0, with the byte that ends it. Words are parted by one space.
 pub fn word(line: &[u8], k: usize) -> &[u8] {
-    let mut at = 0;
-    for _ in 0..k {
-        at = past(line, at, b' ');
-    }
-    between(line, at, past(line, at, b' '))
+    line.split_inclusive(|b| *b == b' ').nth(k).unwrap_or(b"")
 }
 
 // Reads until the buffer is full or the input ends, and answers how many bytes stand at its start. A read may bring fewer than are asked for.

@@ -6,7 +6,7 @@ use mathlib.Core.List.{List, [], ◌∷◌, map}
 use Rattle.value.specs.Symbol.{symbol_of, or_number}
 use Rattle.value.specs.Class.{class_number, class_of_all, bits_of, min_states, all_symbols, or_all, class_of_or}
 use Rattle.value.specs.declared.states.States.TheVariants.{Two, Four, Nine}
-use Rattle.value.specs.declared.states.MaybeStates.TheVariants.{Some, None}
+use Rattle.std.proofs.Common.{Some, None}
 
 -- 0 1 x z h u w l - X Z H U W L, and what is no symbol: b B q / 2 space and the bytes beside capitals
 pub letters : map (λ (b : ℕ). or_number 255 (symbol_of b))

@@ -1,7 +1,7 @@
 -- Classes: the enum and its numbers; the class of a value as the code finds it, by cases of its symbols.
 -- Assumes nothing.
 use Prim.Native.Nat.{ℕ, zero, suc, ◌≤◌, ◌<◌, max}
-use mathlib.Core.Path.{◌≡◌, refl, sym, ◌∙◌}
+use mathlib.Core.Path.{◌≡◌, refl, ◌∙◌}
 use mathlib.Core.Bool.{Bool, true, false, ◌&&◌, true≢false}
 use mathlib.Core.List.{List, [], ◌∷◌}
 use native.Mathlib.Omega.{arith}
@@ -13,7 +13,7 @@ use Rattle.lists.proofs.ChoiceLaws.{both_hold}
 use Rattle.value.specs.Class.{class_number, states_of, class_of, class_of_all, all_symbols, min_states, symbol_class, largest_class, states_or_none}
 use Rattle.value.specs.declared.states.States.{States}
 use Rattle.value.specs.declared.states.States.TheVariants.{Two, Four, Nine}
-use Rattle.value.specs.declared.states.MaybeStates.TheVariants.{Some, None}
+use Rattle.std.proofs.Common.{Some, None}
 
 pub number-states : (c : ℕ) → c ≤ 2 → class_number (states_of c) ≡ c
 number-states zero h = refl
@@ -30,12 +30,6 @@ pub number_small : (s : States) → class_number s ≤ 2
 number_small Two = omega arith
 number_small Four = omega arith
 number_small Nine = omega arith
-
--- a number that is neither 0 nor 1
-pub states-more : (n : ℕ) → (n ≡ 0 → ⊥) → (n ≡ 1 → ⊥) → states_of n ≡ Nine
-states-more zero a b = absurd (a refl)
-states-more (suc zero) a b = absurd (b refl)
-states-more (suc (suc n)) a b = refl
 
 pub class-two : (s : ℕ) → s < 2 → class_of s ≡ 0
 class-two s h = simp (lt-ltb s 2)
@@ -73,20 +67,6 @@ symbol-class s h = rw (le-leb s 8 h) refl
 
 no-symbol-class : (s : ℕ) → 8 < s → symbol_class s ≡ 3
 no-symbol-class s h = rw (lt-leb s 8 h) refl
-
--- by the tests that the code makes, the last one first
-pub class-tests : (s : ℕ) → pick (leb 9 s) 3 (pick (leb 4 s) 2 (pick (leb 2 s) 1 0)) ≡ symbol_class s
-class-tests s = last (leb 9 s) refl
-  where
-    inside : s ≤ 8 → pick (leb 4 s) 2 (pick (leb 2 s) 1 0) ≡ class_of s
-    inside h = by-class (λ (c : ℕ). pick (leb 4 s) 2 (pick (leb 2 s) 1 0) ≡ c) s
-        (λ a. let k : s < 4 = omega arith in simp (lt-leb 4 s k, lt-leb 2 s a))
-        (λ a b. simp (lt-leb 4 s b, le-leb 2 s a))
-        (λ a. simp (le-leb 4 s a))
-
-    last : (t : Bool) → leb 9 s ≡ t → pick t 3 (pick (leb 4 s) 2 (pick (leb 2 s) 1 0)) ≡ symbol_class s
-    last true e = sym (no-symbol-class s (omega (arith, leb-true 9 s e)))
-    last false e = let h : s ≤ 8 = omega (arith, leb-false 9 s e) in inside h ∙ sym (symbol-class s h)
 
 -- the largest class of symbols is their class, and 3 where one is no symbol
 found-class : (l : List ℕ) → all_symbols l ≡ true → largest_class l ≡ class_of_all l
@@ -130,13 +110,6 @@ two-found (s ∷ l) h =
     let k : s < 2 = h 0 in
     let e : symbol_class s ≡ 0 = symbol-class s (omega arith) ∙ class-two s k in
     rw (e, two-found l (λ i. h (suc i))) refl
-
--- the larger of two classes, by the test on their numbers
-pub join-right : (a b : States) {x y : ℕ} → x ≡ class_number a → y ≡ class_number b → x < y → b ≡ states_of (max (class_number a) (class_number b))
-join-right a b p q h = let e : max (class_number a) (class_number b) ≡ class_number b = omega arith in rw e (sym (states-number b))
-
-pub join-left : (a b : States) {x y : ℕ} → x ≡ class_number a → y ≡ class_number b → y ≤ x → a ≡ states_of (max (class_number a) (class_number b))
-join-left a b p q h = let e : max (class_number a) (class_number b) ≡ class_number a = omega arith in rw e (sym (states-number a))
 
 -- one symbol's class
 pub one_class : (s : List ℕ) → length s ≡ 1 → class_of_all s ≡ class_of (get_or s 0 0)

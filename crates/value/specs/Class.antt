@@ -1,12 +1,10 @@
 -- Document 01, 'Symbol and value': the class of a symbol and of a value, and the bits that a symbol takes. In definitions a class is a
 -- number: Two is 0, Four is 1, Nine is 2. The enum `States` is read by `class_number`.
 -- Assumes nothing.
-use Rattle.std.specs.Prelude.{ℕ, zero, suc, max, Bool, true, ◌&&◌, List, [], ◌∷◌, ltb, leb}
+use Rattle.std.specs.Prelude.{ℕ, zero, suc, max, Bool, true, ◌&&◌, List, [], ◌∷◌, ltb, leb, Option, Some, None}
 use Rattle.std.specs.Int.Bits.{bit_or}
 use Rattle.lists.specs.Choice.{pick}
 use Rattle.value.specs.declared.states.States.{States}
-use Rattle.value.specs.declared.states.MaybeStates.{MaybeStates}
-use Rattle.value.specs.declared.states.MaybeStates.TheVariants.{Some, None}
 use Rattle.value.specs.declared.states.States.TheVariants.{Two, Four, Nine}
 
 abbrev pub class_number : States → ℕ
@@ -41,7 +39,7 @@ all_symbols [] = true
 all_symbols (s ∷ l) = leb s 8 && all_symbols l
 
 -- the class of a value, none if a number is above 8
-unfoldable pub min_states : List ℕ → MaybeStates
+unfoldable pub min_states : List ℕ → Option States
 min_states s = pick (all_symbols s) (Some (states_of (class_of_all s))) None
 
 -- ---- how the class is found
@@ -56,7 +54,7 @@ largest_class [] = 0
 largest_class (s ∷ l) = max (symbol_class s) (largest_class l)
 
 -- a class so found, as the code answers it; of a value's numbers it is `min_states` (proofs/ClassLaws: least-found)
-abbrev pub states_or_none : ℕ → MaybeStates
+abbrev pub states_or_none : ℕ → Option States
 states_or_none c = pick (leb c 2) (Some (states_of c)) None
 
 -- ---- the Rust's way: the symbol numbers or-ed together, read as 0..1, 2..3, or 4 and more (proofs/OrLaws: class-by-or). Numbers or-ed may be

@@ -1,10 +1,10 @@
 -- Document 01, 'Symbol and value': which byte stands for which symbol. A symbol is a number, 0 to 8.
 -- Assumes nothing.
-use Rattle.std.specs.Prelude.{ℕ, suc, ◌+◌, Bool, ◌&&◌, List, [], ◌∷◌, eqb, leb}
+use Rattle.std.specs.Prelude.{ℕ, suc, ◌+◌, Bool, ◌&&◌, List, [], ◌∷◌, eqb, leb, Some, None}
+use Rattle.std.specs.Prelude as rust
 use Rattle.std.proofs.Math.Option.{Option, some, none}
 use Rattle.lists.specs.Choice.{pick}
-use Rattle.value.specs.declared.symbol.MaybeBit.{MaybeBit}
-use Rattle.value.specs.declared.symbol.MaybeBit.TheVariants.{Some, None}
+use Rattle.value.specs.declared.symbol.Bit.{Bit}
 
 -- 0 1 x z h u w l - in ASCII: the symbols 0 to 8 in their order
 abbrev pub letters : List ℕ
@@ -28,7 +28,7 @@ abbrev pub is_digit : ℕ → Bool
 is_digit b = leb 48 b && leb b 49
 
 -- the answer of the code
-abbrev pub maybe_bit : Option ℕ → MaybeBit
+abbrev pub maybe_bit : Option ℕ → rust.Option Bit
 maybe_bit none = None
 maybe_bit (some s) = Some (record { 0 = s })
 

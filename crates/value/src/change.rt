@@ -2,10 +2,9 @@
 use crate::states::States;
 use crate::symbol::Bit;
 
-// After wellen's VcdBitVecChange, for raw values too. `MultiBit` carries the value's class.
-#[derive(Clone, Copy)]
+// After wellen's VcdBitVecChange, for raw values too. `MultiBit` carries the value's class. A value that is bad says none.
+#[derive(Clone, Copy, PartialEq, Eq, Debug)]
 pub enum BitVecChange {
     SingleBit(Bit),
     MultiBit(States),
-    Bad,
 }

@@ -3,15 +3,8 @@ ghost use Rattle.std.specs.Prelude.{◌≡◌};
 ghost use Rattle.value.specs.Symbol.{symbol_of, is_digit, maybe_bit, or_number};
 
 // A symbol's number: 0 1 x z h u w l - are 0 to 8.
-#[derive(Clone, Copy)]
+#[derive(Clone, Copy, PartialEq, Eq, Debug)]
 pub struct Bit(pub u8);
-
-// A symbol, or that there is none.
-#[derive(Clone, Copy)]
-pub enum MaybeBit {
-    Some(Bit),
-    None,
-}
 
 // 255 says no symbol.
 const BIT_CHAR_TO_NUM: [u8; 256] = [
@@ -43,22 +36,18 @@ fn table_number(value: u8) -> u8
 pub fn is_digit(value: u8) -> bool
     ensures { result ≡ is_digit value }
 {
-    if value < b'0' {
-        return false;
-    }
-    value <= b'1'
+    matches!(value, b'0'..=b'1')
 }
 
 // The byte's symbol: 0 and 1, of which most values are, by their code, the others by the table.
-pub fn bit_char_to_num(value: u8) -> MaybeBit
+pub fn bit_char_to_num(value: u8) -> Option<Bit>
     ensures { result ≡ maybe_bit (symbol_of value) }
 {
     if is_digit(value) {
-        return MaybeBit::Some(Bit(value - b'0'));
+        return Some(Bit(value - b'0'));
     }
-    let mapped = table_number(value);
-    if mapped == 255 {
-        return MaybeBit::None;
+    match table_number(value) {
+        255 => None,
+        symbol => Some(Bit(symbol)),
     }
-    MaybeBit::Some(Bit(mapped))
 }

@@ -1,7 +1,7 @@
 -- The symbols of bytes: by induction over the bytes, one byte more at a time; their class is the largest that a byte's symbol has.
 -- Assumes nothing.
 use Prim.Native.Nat.{ℕ, zero, suc, ◌+◌, ◌-◌, ◌≤◌, ◌<◌, max}
-use mathlib.Core.Path.{◌≡◌, refl, ap, ◌∙◌}
+use mathlib.Core.Path.{◌≡◌, refl, sym, ap, ◌∙◌}
 use mathlib.Core.Bool.{Bool, true, false, ◌&&◌}
 use mathlib.Core.List.{List, [], ◌∷◌, map}
 use mathlib.Core.Option.{Option, some, none}
@@ -15,7 +15,7 @@ use Rattle.lists.specs.Choice.{bind}
 use Rattle.lists.proofs.ChoiceLaws.{Where, where-some, where-bind, both_hold}
 use Rattle.value.specs.Symbol.{symbol_of, is_digit, or_number}
 use Rattle.value.specs.Class.{all_symbols, min_states, symbol_class, largest_class, states_or_none}
-use Rattle.value.specs.declared.states.MaybeStates.TheVariants.{Some}
+use Rattle.std.proofs.Common.{Some}
 use Rattle.value.proofs.SymbolLaws.{Below, symbol-below, digit-symbol}
 use Rattle.value.proofs.ClassLaws.{class-two, symbol-class, least-found}
 use Rattle.value.specs.declared.states.States.TheVariants.{Two}
@@ -118,12 +118,9 @@ digits_from : (i : ℕ) (u : List ℕ) → i < length u → all_digits (drop i u
 unfolding all_digits
 digits_from i u h = rw (add-one i, drop-cons u i 0 h) refl
 
-pub digits-no : (all : Bool) (i : ℕ) (u : List ℕ) → i < length u → is_digit (get_or u i 0) ≡ false → all && all_digits (drop i u) ≡ all_digits u → false ≡ all_digits u
-digits-no true i u h e k = rw (digits_from i u h, e) at k
-digits-no false i u h e k = k
-
-pub digits-yes : (all : Bool) (i : ℕ) (u : List ℕ) → i < length u → is_digit (get_or u i 0) ≡ true → all && all_digits (drop i u) ≡ all_digits u → all && all_digits (drop (i + 1) u) ≡ all_digits u
-digits-yes all i u h e k = rw (digits_from i u h, e) at k
+pub digits-next : (all : Bool) (i : ℕ) (u : List ℕ) → i < length u → (all && is_digit (get_or u i 0)) && all_digits (drop (i + 1) u) ≡ all && all_digits (drop i u)
+digits-next true i u h = sym (digits_from i u h)
+digits-next false i u h = refl
 
 pub digits-all : (all : Bool) (i : ℕ) (u : List ℕ) → length u ≤ i → all && all_digits (drop i u) ≡ all_digits u → all ≡ all_digits u
 unfolding all_digits

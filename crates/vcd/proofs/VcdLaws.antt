@@ -9,37 +9,23 @@ use mathlib.Core.Option.{Option, some, none}
 use native.Mathlib.Omega.{arith}
 use borrow.Author.Tests.{lt-ltb, le-ltb, ltb-true, ltb-false, leb-true, eq-eqb, ne_eqb, eqb-false}
 use lib.Dec.{ltb, leb, eqb}
-use lib.ListN.{length, get_or, drop, length-map}
+use lib.ListN.{length, get_or, length-map}
 use Rattle.lists.specs.Choice.{pick, bind, is_some, or_empty}
 use Rattle.lists.proofs.ChoiceLaws.{Where, where-some, where-map, where-pick, where-bind, both_hold, none-holds}
 use Rattle.value.specs.Symbol.{symbol_of, letters, maybe_bit, or_number}
 use Rattle.value.specs.Class.{states_of, class_of_all, all_symbols}
 use Rattle.value.specs.Change.{change_of}
 use Rattle.value.specs.declared.symbol.Bit.{Bit}
-use Rattle.value.specs.declared.symbol.MaybeBit.TheVariants as maybe
 use Rattle.value.specs.declared.states.States.{States}
-use Rattle.value.specs.declared.states.MaybeStates.TheVariants.{Some, None}
-use Rattle.value.specs.declared.change.BitVecChange.TheVariants.{SingleBit, MultiBit, Bad}
+use Rattle.std.proofs.Common.{Some, None}
+use Rattle.value.specs.declared.change.BitVecChange.TheVariants.{SingleBit, MultiBit}
 use Rattle.value.proofs.SymbolLaws.{letter-symbol}
 use Rattle.lists.specs.Last.{last_or}
-use Rattle.lists.proofs.LastLaws.{last_of}
 use Rattle.vcd.specs.Vcd.{symbols_in, vcd_bit, without_b, without0b, text_of, extends, extended, text_symbols, vcd_symbols, ascii_states}
 use Rattle.vcd.proofs.SymbolsLaws.{Symbols, symbols-more, symbols-is, symbols-of, symbols-number}
 use Rattle.vcd.proofs.ExtendedLaws.{Extended, extended-is, extended-some}
 
 -- the prefixes of a value
-pub b-empty : (v : List ℕ) → length v ≡ 0 → without_b v ≡ v
-b-empty [] h = refl
-b-empty (c ∷ v) h = absurd (omega arith)
-
-pub b-dropped : (v : List ℕ) → 0 < length v → get_or v 0 0 ≡ 98 → without_b v ≡ drop 1 v
-b-dropped [] h e = absurd (omega arith)
-b-dropped (c ∷ v) h e = rw e refl
-
-pub capital-dropped : (v : List ℕ) → 0 < length v → get_or v 0 0 ≡ 66 → without_b v ≡ drop 1 v
-capital-dropped [] h e = absurd (omega arith)
-capital-dropped (c ∷ v) h e = rw e refl
-
 pub b-absent : (v : List ℕ) → (get_or v 0 0 ≡ 98 → ⊥) → (get_or v 0 0 ≡ 66 → ⊥) → without_b v ≡ v
 b-absent [] f g = refl
 b-absent (c ∷ v) f g = rw (ne_eqb c 98 f, ne_eqb c 66 g) refl
@@ -47,14 +33,8 @@ b-absent (c ∷ v) f g = rw (ne_eqb c 98 f, ne_eqb c 66 g) refl
 pub short-kept : (v : List ℕ) → length v ≤ 2 → without0b v ≡ v
 short-kept v h = rw (le-ltb 2 (length v) h) refl
 
-pub first-kept : (v : List ℕ) → (get_or v 0 0 ≡ 48 → ⊥) → without0b v ≡ v
-first-kept v f = rw (ne_eqb (get_or v 0 0) 48 f, and-false (ltb 2 (length v))) refl
-
 pub second-kept : (v : List ℕ) → (get_or v 1 0 ≡ 98 → ⊥) → without0b v ≡ v
 second-kept v f = rw (ne_eqb (get_or v 1 0) 98 f, and-false (eqb (get_or v 0 0) 48), and-false (ltb 2 (length v))) refl
-
-pub zero-b-dropped : (v : List ℕ) → 2 < length v → get_or v 0 0 ≡ 48 → get_or v 1 0 ≡ 98 → without0b v ≡ drop 2 v
-zero-b-dropped v h e f = rw (lt-ltb 2 (length v) h, e, f) refl
 
 -- s is what the text u says to a vector of width w
 pub record Text (w : ℕ) (u s : List ℕ) : Type 0 where
@@ -129,18 +109,18 @@ first-symbol u {k} h = by (symbols_in u) refl
 abbrev InClass : States → List ℕ → Type 0
 InClass k s = states_of (class_of_all s) ≡ k
 
-change-wide : (w : ℕ) → 1 < w → (k : States) (o : Option (List ℕ)) → Where (InClass k) o → change_of w o ≡ pick (is_some o) (MultiBit k) Bad
+change-wide : (w : ℕ) → 1 < w → (k : States) (o : Option (List ℕ)) → Where (InClass k) o → change_of w o ≡ pick (is_some o) (Some (MultiBit k)) None
 change-wide w h k none e = refl
 change-wide zero h k (some s) e = absurd (omega arith)
 change-wide (suc zero) h k (some s) e = absurd (omega arith)
-change-wide (suc (suc w)) h k (some s) e = ap MultiBit e
+change-wide (suc (suc w)) h k (some s) e = ap (λ (c : States). Some (MultiBit c)) e
 
 -- where every byte has a symbol and the text fits: whole, or begun by a symbol that extends
 pub text-change : (w : ℕ) (u : List ℕ) {k : States} → 1 < w → 0 < length u → length u ≤ w → ascii_states (symbols_in u) ≡ Some k
-    → change_of w (text_symbols w u) ≡ pick (eqb (length u) w || extends (or_number 255 (symbol_of (get_or u 0 0)))) (MultiBit k) Bad
+    → change_of w (text_symbols w u) ≡ pick (eqb (length u) w || extends (or_number 255 (symbol_of (get_or u 0 0)))) (Some (MultiBit k)) None
 text-change w u {k} one h l e =
     change-wide w one k (text_symbols w u) class
-    ∙ ap (λ (t : Bool). pick t (MultiBit k) Bad) (ap is_some (text-fits w u h l) ∙ good (symbols_in u) refl e)
+    ∙ ap (λ (t : Bool). pick t (Some (MultiBit k)) None) (ap is_some (text-fits w u h l) ∙ good (symbols_in u) refl e)
   where
     class : Where (InClass k) (text_symbols w u)
     class = where-map (Text w u) (InClass k) (text_symbols w u) (λ s x. let f = x.class in cc) (text-is w u)
@@ -151,32 +131,27 @@ text-change w u {k} one h l e =
     good (some s) f g = let y = symbols-of u f in rw (symbols-number y 0 h, ← y.size) (extended-some w s)
 
 -- width 1
-pub bit-empty : (v : List ℕ) → length v ≡ 0 → vcd_bit v ≡ some (0 ∷ [])
-unfolding vcd_bit last_or
-bit-empty [] h = refl
-bit-empty (x ∷ v) h = absurd (omega arith)
-
-pub bit-b : (v : List ℕ) → 0 < length v → get_or v (length v - 1) 0 ≡ 98 → vcd_bit v ≡ some (0 ∷ [])
+pub bit-b : (v : List ℕ) → last_or 98 v ≡ 98 → vcd_bit v ≡ some (0 ∷ [])
 unfolding vcd_bit
-bit-b v h e = rw (last_of 98 v h, e) refl
+bit-b v e = rw e refl
 
-pub bit-last : (v : List ℕ) → 0 < length v → (get_or v (length v - 1) 0 ≡ 98 → ⊥) → vcd_bit v ≡ symbols_in (get_or v (length v - 1) 0 ∷ [])
+pub bit-last : (v : List ℕ) → (last_or 98 v ≡ 98 → ⊥) → vcd_bit v ≡ symbols_in (last_or 98 v ∷ [])
 unfolding vcd_bit
-bit-last v h f = rw (last_of 98 v h, ne_eqb (get_or v (length v - 1) 0) 98 f) refl
+bit-last v f = rw (ne_eqb (last_or 98 v) 98 f) refl
 
-pub change-bit : (b : ℕ) {x : Bit} → maybe_bit (symbol_of b) ≡ maybe.Some x → change_of 1 (symbols_in (b ∷ [])) ≡ SingleBit x
+pub change-bit : (b : ℕ) {x : Bit} → maybe_bit (symbol_of b) ≡ Some x → change_of 1 (symbols_in (b ∷ [])) ≡ Some (SingleBit x)
 unfolding symbols_in
 change-bit b {x} = by (symbol_of b)
   where
-    by : (o : Option ℕ) → maybe_bit o ≡ maybe.Some x → change_of 1 (bind o (λ s. some (s ∷ []))) ≡ SingleBit x
+    by : (o : Option ℕ) → maybe_bit o ≡ Some x → change_of 1 (bind o (λ s. some (s ∷ []))) ≡ Some (SingleBit x)
     by none e = cc
     by (some s) e = cc
 
-pub change-none : (b : ℕ) → maybe_bit (symbol_of b) ≡ maybe.None → change_of 1 (symbols_in (b ∷ [])) ≡ Bad
+pub change-none : (b : ℕ) → maybe_bit (symbol_of b) ≡ None → change_of 1 (symbols_in (b ∷ [])) ≡ None
 unfolding symbols_in
 change-none b = by (symbol_of b)
   where
-    by : (o : Option ℕ) → maybe_bit o ≡ maybe.None → change_of 1 (bind o (λ s. some (s ∷ []))) ≡ Bad
+    by : (o : Option ℕ) → maybe_bit o ≡ None → change_of 1 (bind o (λ s. some (s ∷ []))) ≡ None
     by none e = refl
     by (some s) e = cc
 
@@ -236,11 +211,11 @@ text-whole u {s} e h = text-fits (length u) u h (omega arith) ∙ rw (e, eq-eqb 
 
 pub whole-good : (u : List ℕ) {s : List ℕ} → symbols_in u ≡ some s → 0 < length u
     → (vcd_symbols (length u) u ≡ some s) × (vcd_symbols (length u) (98 ∷ u) ≡ some s)
-unfolding text_of
+unfolding text_of last_or
 whole-good [] e h = absurd (omega arith)
 whole-good (b ∷ []) e h =
     let f = no-b b ((symbols-of (b ∷ []) e).at 0 (omega arith)) in
-    (bit-last (b ∷ []) (omega arith) f ∙ e, bit-last (98 ∷ b ∷ []) (omega arith) f ∙ e)
+    (bit-last (b ∷ []) f ∙ e, bit-last (98 ∷ b ∷ []) f ∙ e)
 whole-good (b ∷ c ∷ u) e h =
     let y = symbols-of (b ∷ c ∷ u) e in
     let first = y.at 0 (omega arith) in

@@ -1,13 +1,13 @@
 -- Document 01, 'Symbol and value', and document 02, (h): what a VCD value says of a vector of a width (`decode_vcd_bit_vec_change`). `none` is "bad".
 -- Assumes nothing.
-use Rattle.std.specs.Prelude.{ℕ, zero, suc, ◌-◌, Bool, true, ◌&&◌, ◌||◌, List, [], ◌∷◌, ◌++◌, length, drop, get_or, replicate, ltb, eqb}
+use Rattle.std.specs.Prelude.{ℕ, zero, suc, ◌-◌, Bool, true, ◌&&◌, ◌||◌, List, [], ◌∷◌, ◌++◌, length, drop, get_or, replicate, ltb, eqb, Some, None}
+use Rattle.std.specs.Prelude as rust
 use Rattle.std.proofs.Math.Option.{Option, some, none}
 use Rattle.lists.specs.Choice.{pick, bind}
 use Rattle.lists.specs.Last.{last_or}
 use Rattle.value.specs.Symbol.{symbol_of, is_digit}
 use Rattle.value.specs.Class.{states_of, class_of_all}
-use Rattle.value.specs.declared.states.MaybeStates.{MaybeStates}
-use Rattle.value.specs.declared.states.MaybeStates.TheVariants.{Some, None}
+use Rattle.value.specs.declared.states.States.{States}
 
 -- the symbols of bytes; none where a byte has no symbol
 unfoldable pub symbols_in : List ℕ → Option (List ℕ)
@@ -53,7 +53,7 @@ vcd_symbols (suc zero) v = vcd_bit v
 vcd_symbols (suc (suc w)) v = text_symbols (suc (suc w)) (text_of v)
 
 -- the class that the code answers of a text's symbols
-abbrev pub ascii_states : Option (List ℕ) → MaybeStates
+abbrev pub ascii_states : Option (List ℕ) → rust.Option States
 ascii_states none = None
 ascii_states (some s) = Some (states_of (class_of_all s))
 

@@ -11,8 +11,8 @@ ghost use Rattle.vcd.specs.Vcd.{extends, text_symbols, vcd_bit, vcd_symbols, sym
 
 use value::change::BitVecChange;
 use value::letter::{letter_class, small_letter};
-use value::states::{MaybeStates, States, larger, states_or_none};
-use value::symbol::{Bit, MaybeBit, bit_char_to_num, is_digit};
+use value::states::{States, states_or_none};
+use value::symbol::{Bit, bit_char_to_num, is_digit};
 use vcd_text::vcd_text;
 
 // Whether a text has the letters 0 and 1 alone. The loop has no exit on its way, so that the compiler looks at many letters in a turn.
@@ -20,48 +20,34 @@ fn is_binary(text: &[u8]) -> bool
     ensures { result ≡ all_digits text.now }
 {
     let mut all = true;
-    let mut i = 0;
-    while i < text.len() {
-        let digit = is_digit(text[i]);
-        i += 1;
-        if !digit {
-            all = false;
-        }
+    for &letter in text {
+        all &= is_digit(letter);
     }
     all
 }
 
 // The class of a text's symbols; none where a byte has no symbol.
-fn states_from_ascii(text: &[u8]) -> MaybeStates
+fn states_from_ascii(text: &[u8]) -> Option<States>
     ensures { result ≡ ascii_states (symbols_in text.now) }
 {
     // a text of 0 and 1 alone is Two: the first case, for all letters at once
     if is_binary(text) {
-        return MaybeStates::Some(States::Two);
+        return Some(States::Two);
     }
     let mut class: u8 = 0;
-    let mut i = 0;
-    while i < text.len() {
-        class = larger(class, letter_class(text[i]));
-        i += 1;
+    for &letter in text {
+        class = class.max(letter_class(letter));
     }
     states_or_none(class)
 }
 
 // A value of width 1: its last byte counts alone; nothing, or a last `b`, is 0.
-fn decode_vcd_bit(value: &[u8]) -> BitVecChange
+fn decode_vcd_bit(value: &[u8]) -> Option<BitVecChange>
     ensures { result ≡ change_of 1 (vcd_bit value.now) }
 {
-    if value.len() == 0 {
-        return BitVecChange::SingleBit(Bit(0));
-    }
-    let last = value[value.len() - 1];
-    if last == b'b' {
-        return BitVecChange::SingleBit(Bit(0));
-    }
-    match bit_char_to_num(last) {
-        MaybeBit::Some(bit) => BitVecChange::SingleBit(bit),
-        MaybeBit::None => BitVecChange::Bad,
+    match value.last().copied().unwrap_or(b'b') {
+        b'b' => Some(BitVecChange::SingleBit(Bit(0))),
+        last => Some(BitVecChange::SingleBit(bit_char_to_num(last)?)),
     }
 }
 
@@ -70,46 +56,30 @@ fn extends_left(letter: u8) -> bool
     requires { is_some (symbol_of letter) ≡ true }
     ensures { result ≡ extends (or_number 255 (symbol_of letter)) }
 {
-    match small_letter(letter) {
-        b'h' | b'l' => false,
-        _ => true,
-    }
+    !matches!(small_letter(letter), b'h' | b'l')
 }
 
 // A text of a wider vector.
-fn decode_vcd_text(width: u32, text: &[u8]) -> BitVecChange
+fn decode_vcd_text(width: u32, text: &[u8]) -> Option<BitVecChange>
     requires { 1 < width }
     ensures { result ≡ change_of width (text_symbols width text.now) }
 {
-    if text.len() == 0 {
-        return BitVecChange::Bad;
+    let width = width as usize;
+    if text.is_empty() || width < text.len() {
+        return None;
     }
-    if (width as usize) < text.len() {
-        return BitVecChange::Bad;
-    }
-    match states_from_ascii(text) {
-        MaybeStates::None => BitVecChange::Bad,
-        MaybeStates::Some(states) => {
-            if text.len() == width as usize {
-                return BitVecChange::MultiBit(states);
-            }
-            if extends_left(text[0]) {
-                return BitVecChange::MultiBit(states);
-            }
-            BitVecChange::Bad
-        }
-    }
+    let states = states_from_ascii(text)?;
+    let whole = text.len() == width || extends_left(text[0]);
+    whole.then_some(BitVecChange::MultiBit(states))
 }
 
-// What a VCD value says to a vector of a width.
-pub fn decode_vcd_bit_vec_change(width: u32, value: &[u8]) -> BitVecChange
+// What a VCD value says to a vector of a width; nothing where it is bad.
+pub fn decode_vcd_bit_vec_change(width: u32, value: &[u8]) -> Option<BitVecChange>
     ensures { result ≡ change_of width (vcd_symbols width value.now) }
 {
-    if width == 0 {
-        return BitVecChange::Bad;
+    match width {
+        0 => None,
+        1 => decode_vcd_bit(value),
+        _ => decode_vcd_text(width, vcd_text(value)),
     }
-    if width == 1 {
-        return decode_vcd_bit(value);
-    }
-    decode_vcd_text(width, vcd_text(value))
 }

@@ -11,35 +11,24 @@ ghost use Rattle.vcd.specs.Vcd.{without_b, without0b, text_of};
 fn without_b(value: &[u8]) -> &[u8]
     ensures { result.now ≡ without_b value.now }
 {
-    if value.len() == 0 {
-        return value;
+    match value {
+        [b'b' | b'B', rest @ ..] => rest,
+        _ => value,
     }
-    if value[0] == b'b' {
-        return &value[1..];
-    }
-    if value[0] == b'B' {
-        return &value[1..];
-    }
-    value
 }
 
 // The value without a leading `0b`, which is dropped only where more follows.
 fn without_0b(value: &[u8]) -> &[u8]
     ensures { result.now ≡ without0b value.now }
 {
-    if value.len() <= 2 {
-        return value;
+    match value {
+        [b'0', b'b', _, ..] => &value[2..],
+        _ => value,
     }
-    if value[0] != b'0' {
-        return value;
-    }
-    if value[1] != b'b' {
-        return value;
-    }
-    &value[2..]
 }
 
 // The part of a wider vector's value that holds its symbols.
+#[tactic(auto, unfolding(vcd::specs::Vcd::text_of))]
 pub fn vcd_text(value: &[u8]) -> &[u8]
     ensures { result.now ≡ text_of value.now }
 {

@@ -2,9 +2,9 @@
 // that a signal takes or refuses. The file `stdout` was written by hand, from the documents.
 #![tactic(auto)]
 
-use numbers::leb128::{Leb128, get_leb128, leb128_len, put_leb128};
+use numbers::leb128::{get_leb128, leb128_len, put_leb128};
 use numbers::little_endian::{get_u32, get_u64, put_u32, put_u64};
-use numbers::wide_64;
+use refusal::Refusal;
 use signal::decode::DecodedChange;
 use signal::kind::SignalEncoding;
 use signal_decode::{decode_raw, decode_vcd};
@@ -22,13 +22,13 @@ fn print_line<W: Write>(to: &mut W, name: &[u8], n: u64) -> io::Result<()> {
     print(to, b"\n")
 }
 
-fn print_read<W: Write>(to: &mut W, r: Leb128) -> io::Result<()> {
-    match r {
-        Leb128::Value(v, next) => {
-            print_count(to, b" ", v as u64)?;
+fn print_read<W: Write>(to: &mut W, read: Option<(u32, usize)>) -> io::Result<()> {
+    match read {
+        Some((v, next)) => {
+            print_count(to, b" ", u64::from(v))?;
             print_line(to, b" ", next as u64)
         }
-        Leb128::Bad => print(to, b" bad\n"),
+        None => print(to, b" bad\n"),
     }
 }
 
@@ -40,7 +40,7 @@ fn read_leb128<W: Write>(to: &mut W, s: &[u8]) -> io::Result<()> {
 }
 
 fn print_leb128<W: Write>(to: &mut W, v: u32, s: &[u8]) -> io::Result<()> {
-    print_count(to, b"leb128 ", v as u64)?;
+    print_count(to, b"leb128 ", u64::from(v))?;
     print(to, b" ")?;
     print_bytes(to, s)?;
     print(to, b"\n")?;
@@ -58,15 +58,10 @@ fn leb128<W: Write>(to: &mut W, v: u32) -> io::Result<()> {
 }
 
 fn leb128_values<W: Write>(to: &mut W) -> io::Result<()> {
-    leb128(to, 0)?;
-    leb128(to, 2)?;
-    leb128(to, 127)?;
-    leb128(to, 128)?;
-    leb128(to, 129)?;
-    leb128(to, 130)?;
-    leb128(to, 12857)?;
-    leb128(to, 624485)?;
-    leb128(to, 4294967295)
+    for v in [0, 2, 127, 128, 129, 130, 12857, 624485, u32::MAX] {
+        leb128(to, v)?;
+    }
+    Ok(())
 }
 
 // Longer forms, a number of 33 bits, and forms that are cut off.
@@ -96,7 +91,7 @@ fn print_bits<W: Write>(
 fn little_endian_32<W: Write>(to: &mut W, v: u32) -> io::Result<()> {
     let mut buf = [0u8; 4];
     put_u32(&mut buf, 0, v);
-    print_bits(to, b"u32 ", &buf, get_u32(&buf, 0) as u64, 8)
+    print_bits(to, b"u32 ", &buf, u64::from(get_u32(&buf, 0)), 8)
 }
 
 fn little_endian_64<W: Write>(to: &mut W, v: u64) -> io::Result<()> {
@@ -106,23 +101,23 @@ fn little_endian_64<W: Write>(to: &mut W, v: u64) -> io::Result<()> {
 }
 
 // The class that the top class rises to, or the refusal's number.
-fn print_decoded<W: Write>(to: &mut W, r: DecodedChange) -> io::Result<()> {
-    match r {
-        DecodedChange::Change(_, top) => print_line(to, b"' good ", wide_64(top.number())),
-        DecodedChange::Refused(n) => print_line(to, b"' bad ", n as u64),
+fn print_decoded<W: Write>(to: &mut W, decoded: Result<DecodedChange, Refusal>) -> io::Result<()> {
+    match decoded {
+        Ok(change) => print_line(to, b"' good ", u64::from(change.states.number())),
+        Err(refusal) => print_line(to, b"' bad ", u64::from(refusal.number())),
     }
 }
 
 fn vcd<W: Write>(to: &mut W, width: u32, value: &[u8]) -> io::Result<()> {
-    print_count(to, b"vcd ", width as u64)?;
+    print_count(to, b"vcd ", u64::from(width))?;
     print(to, b" '")?;
     print(to, value)?;
     print_decoded(to, decode_vcd(SignalEncoding::BitVector(width), value))
 }
 
 fn print_raw<W: Write>(to: &mut W, width: u32, claim: u32, value: &[u8]) -> io::Result<()> {
-    print_count(to, b"raw ", width as u64)?;
-    print_count(to, b" ", claim as u64)?;
+    print_count(to, b"raw ", u64::from(width))?;
+    print_count(to, b" ", u64::from(claim))?;
     print(to, b" '")?;
     print_bytes(to, value)
 }

@@ -1,6 +1,7 @@
 -- The image that accepted bytes are, where its blocks and their parts begin, and what its blocks add to the combined table.
 -- Laws: proofs/HeadLaws, proofs/BlockLaws; PartLaws of walk_part, TableLaws of walk_table; for entry points, proofs/OpenLaws.
 -- Assumes nothing.
+use Rattle.std.specs.Prelude as std
 use Rattle.std.specs.Prelude.{ℕ, suc, ◌+◌, ◌-◌, ◌≤◌, ◌<◌, ◌≡◌, Bool, true, List, [], ◌∷◌, ◌++◌, eqb, length, take, drop}
 use Rattle.std.proofs.Math.Option.{Option, some, none}
 use Rattle.lists.specs.Choice.{pick, is_some}
@@ -77,6 +78,11 @@ pub record PartHere (from to top n g : ℕ) (b : List ℕ) : Type 0 where
   pub end : part_there (image_in b) n g ≡ true → to ≡ part_place (image_in b) n (suc g)
 
 -- ---- the combined table
+
+-- the end of a table, as the code holds it
+abbrev pub end_held : std.Option ℕ → Option ℕ
+end_held std.None = none
+end_held (std.Some t) = some t
 
 -- its last time, if it has one
 abbrev pub last_time : List ℕ → Option ℕ

@@ -7,8 +7,9 @@ use mathlib.Core.List.{List, [], ◌∷◌, ◌++◌, append_assoc, append-nil}
 use mathlib.Core.Option.{Option, some, none}
 use native.Mathlib.Numerals.{add-one}
 use native.Mathlib.Omega.{arith}
-use borrow.Author.Tests.{eq-eqb, ne_eqb, eqb-true, lt-ltb, le-ltb}
+use borrow.Author.Tests.{eqb-true, lt-ltb, le-ltb}
 use lib.Dec.{eqb}
+use mir.Val.{bool_byte}
 use lib.ListN.{length, get_or, set, drop, length-append, length-drop, drop_of_length-le}
 use lib.Seq.{sets, drop-cons, drop-length}
 use Rattle.lists.specs.Choice.{pick}
@@ -23,7 +24,6 @@ use Rattle.image.specs.Head.{image_limit}
 use Rattle.image.specs.Image.{Image, streamed, blocks_bytes}
 use Rattle.image.proofs.SizeLaws.{block_size_lem}
 use Rattle.codec.specs.Valid.{BlocksFit}
-use Rattle.codec.specs.Ends.{end_of}
 use Rattle.loaded.specs.Opener.{block_at}
 use Rattle.loaded.specs.Loading.{overlap, join_times, table_from}
 use Rattle.loaded.specs.Reader.{refuse, counted, table_after, table_in}
@@ -47,19 +47,14 @@ shared-few (some t) (u ∷ ts) = by (eqb u t)
     by true = omega arith
     by false = omega arith
 
-pub shared-first : (later : Bool) (end : ℕ) (ts : List ℕ) → later ≡ false → 0 ≡ shared_times (end_of later end) ts
-shared-first true end ts e = let z : ◌≡◌ {A = ℕ} 0 1 = cc in absurd (omega arith)
-shared-first false end ts e = refl
-
-pub shared-end : (later : Bool) (end t : ℕ) (ts : List ℕ) → later ≡ true → 1 ≤ length ts → t ≡ get_or ts 0 0 → t ≡ end → 1 ≡ shared_times (end_of later end) ts
-shared-end true end t [] e h f g = absurd (omega arith)
-shared-end true end t (u ∷ ts) e h f g = rw (eq-eqb u end (sym f ∙ g)) refl
-shared-end false end t ts e h f g = let z : ◌≡◌ {A = ℕ} 0 1 = cc in absurd (omega arith)
-
-pub shared-not : (later : Bool) (end t : ℕ) (ts : List ℕ) → later ≡ true → 1 ≤ length ts → t ≡ get_or ts 0 0 → (t ≡ end → ⊥) → 0 ≡ shared_times (end_of later end) ts
-shared-not true end t [] e h f g = absurd (omega arith)
-shared-not true end t (u ∷ ts) e h f g = rw (ne_eqb u end (λ q. g (f ∙ q))) refl
-shared-not false end t ts e h f g = let z : ◌≡◌ {A = ℕ} 0 1 = cc in absurd (omega arith)
+-- one where the first of the times is the end
+pub shared_end : (t end : ℕ) (ts : List ℕ) → 1 ≤ length ts → t ≡ get_or ts 0 0 → bool_byte (eqb t end) ≡ shared_times (some end) ts
+shared_end t end [] h e = absurd (omega arith)
+shared_end t end (u ∷ ts) h e = ap (λ (v : ℕ). bool_byte (eqb v end)) e ∙ by (eqb u end)
+  where
+    by : (b : Bool) → bool_byte b ≡ pick b 1 0
+    by true = refl
+    by false = refl
 
 -- a table with a block's times ends as the block does
 pub last-joined : (l ts : List ℕ) → 1 ≤ length ts → last_time (join_times l ts) ≡ some (last_or 0 ts)

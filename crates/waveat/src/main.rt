@@ -9,7 +9,7 @@ ghost use Rattle.std.specs.Io.KnownBytes.{Appends};
 ghost use Rattle.cursor_text.specs.At.{at_limit, at_of};
 
 use cursor_text::at_text;
-use digits::{Number, decimal};
+use digits::decimal;
 use std::io;
 use std::io::{Read, Write};
 use std::rt::Env;
@@ -21,10 +21,10 @@ fn print_usage<W: Write>(to: &mut W) -> io::Result<()> {
 
 // The time that the argument says. On Linux an argument has at most 131,071 bytes, so any fits, with all the zeros in front of a number. A
 // longer one would come as an empty one, which is no number.
-fn time_asked(rt: &impl Env) -> Number {
+fn time_asked(rt: &impl Env) -> Option<u64> {
     let mut word = [0u8; 131072];
     let n = argument(rt, 1, &mut word);
-    decimal(&word[..n], 18446744073709551615)
+    decimal(&word[..n], u64::MAX)
 }
 
 // Writes the text, and nothing else, by way of a buffer that every such text fits into.
@@ -50,10 +50,7 @@ fn print_input<R: Read, W: Write>(from: &mut R, to: &mut W, t: u64) -> io::Resul
 
 // The arguments are one.
 fn has_one(rt: &impl Env) -> bool {
-    if has_argument(rt, 1) {
-        return !has_argument(rt, 2);
-    }
-    false
+    has_argument(rt, 1) && !has_argument(rt, 2)
 }
 
 fn main(rt: HostRuntime) -> io::Result<()> {
@@ -62,7 +59,7 @@ fn main(rt: HostRuntime) -> io::Result<()> {
         return print_usage(&mut to);
     }
     match time_asked(&rt) {
-        Number::Value(t) => print_input(&mut rt.stdin(), &mut to, t),
-        Number::None => print_usage(&mut to),
+        Some(t) => print_input(&mut rt.stdin(), &mut to, t),
+        None => print_usage(&mut to),
     }
 }

@@ -10,33 +10,32 @@ ghost use Rattle.std.specs.Prelude.{◌≡◌};
 ghost use Rattle.joined.specs.Join.{join_reply, join_after};
 ghost use Rattle.wavejoin.specs.Files.{files_of};
 
-use file::{Input, read_argument};
+use file::read_argument;
 use join::join;
-use joined::JoinAnswer;
+use refusal::Refusal;
 use std::io;
 use std::io::Write;
 use std::rt::{Env, Files};
-use text::{before, has_argument, print, print_number};
+use text::{before, has_argument, print};
 
 fn print_usage<W: Write>(to: &mut W) -> io::Result<()> {
     print(to, b"usage: wavejoin FIRST SECOND\n")
 }
 
-fn print_refused<W: Write>(to: &mut W, number: u32) -> io::Result<()> {
-    print(to, b"refused ")?;
-    print_number(to, number as u64)?;
-    print(to, b"\n")
+fn print_refused<W: Write>(to: &mut W, refusal: Refusal) -> io::Result<()> {
+    let number = refusal.number();
+    write!(to, "refused {number}\n")
 }
 
 // Joins what two files hold. Of a file that is too long one byte more than the limit was read, which may be an image by itself.
-fn join_files(first: &[u8], second: &[u8], out: &mut [u8]) -> JoinAnswer
+fn join_files(first: &[u8], second: &[u8], out: &mut [u8]) -> Result<u32, Refusal>
     ensures { join_after (join_reply result) out.new ≡ files_of first.now second.now out.old }
 {
     if 1048576 < first.len() {
-        return JoinAnswer::Refused(11);
+        return Err(Refusal::NoImage);
     }
     if 1048576 < second.len() {
-        return JoinAnswer::Refused(11);
+        return Err(Refusal::NoImage);
     }
     join(first, second, out)
 }
@@ -48,10 +47,9 @@ fn print_joined<W: Write>(
     second: &[u8],
     out: &mut [u8],
 ) -> io::Result<()> {
-    let answer = join_files(first, second, out);
-    match answer {
-        JoinAnswer::Joined(total) => print(to, before(&*out, total as usize)),
-        JoinAnswer::Refused(number) => print_refused(to, number),
+    match join_files(first, second, out) {
+        Ok(total) => print(to, before(&*out, total as usize)),
+        Err(refusal) => print_refused(to, refusal),
     }
 }
 
@@ -64,10 +62,10 @@ fn join_arguments<R: Env + Files, W: Write>(
     second: &mut [u8; 1048577],
     out: &mut [u8; 2097152],
 ) -> io::Result<()> {
-    let Input::Bytes(n) = read_argument(rt, 1, first) else {
+    let Some(n) = read_argument(rt, 1, first) else {
         return print_usage(to);
     };
-    let Input::Bytes(m) = read_argument(rt, 2, second) else {
+    let Some(m) = read_argument(rt, 2, second) else {
         return print_usage(to);
     };
     print_joined(to, before(&*first, n), before(&*second, m), out)
@@ -75,10 +73,7 @@ fn join_arguments<R: Env + Files, W: Write>(
 
 // The arguments are two.
 fn has_two(rt: &impl Env) -> bool {
-    if has_argument(rt, 2) {
-        return !has_argument(rt, 3);
-    }
-    false
+    has_argument(rt, 2) && !has_argument(rt, 3)
 }
 
 fn main(rt: HostRuntime) -> io::Result<()> {

@@ -8,8 +8,9 @@ mod lines;
 
 use line::words::spells;
 use lines::take_lines;
+use sheet::Memory;
 use sheet::answer::print_image;
-use sheet::run::{OWN, fresh_run};
+use sheet::run::Run;
 use std::io;
 use std::io::{Read, Write};
 use std::rt::Env;
@@ -29,25 +30,16 @@ fn show<W: Write>(to: &mut W, image: &[u8], alone: bool) -> io::Result<()> {
 
 // Makes the calls in memory of its own, and shows the image that they leave.
 fn take_sheet<W: Write>(to: &mut W, sheet: &[u8], quiet: bool) -> io::Result<()> {
-    let mut run = fresh_run(65535, 1048576, 1048576);
-    if quiet {
-        run[OWN] = 1;
-    }
-    let mut records = [0u64; 256];
-    let mut times = [0u64; 65535];
-    let mut work = zeros();
-    let mut image = zeros();
-    let total = take_lines(
-        to,
-        &mut run,
-        sheet,
-        &mut records,
-        &mut times,
-        &mut work,
-        &mut image,
-    )?;
+    let mut run = Run::fresh(65535, 1048576, 1048576);
+    let mut memory = Memory {
+        records: &mut [0u64; 256],
+        times: &mut [0u64; 65535],
+        work: &mut zeros(),
+        image: &mut zeros(),
+    };
+    let total = take_lines(to, &mut run, sheet, &mut memory, quiet)?;
     if 0 < total {
-        show(to, before(&image, total), quiet)?;
+        show(to, before(memory.image, total), quiet)?;
     }
     Ok(())
 }

@@ -6,6 +6,7 @@ use mathlib.Core.Path.{◌≡◌, refl, sym, ap, ◌∙◌}
 use mathlib.Core.Bool.{Bool, true, false, ◌||◌}
 use mathlib.Core.List.{List, [], ◌∷◌}
 use mathlib.Core.Option.{Option, some, none}
+use Rattle.std.specs.Prelude as code
 use native.Mathlib.Decide.{ℕ_discrete}
 use native.Mathlib.Nat.{add-zero, zero-add}
 use native.Mathlib.Omega.{arith}
@@ -19,10 +20,8 @@ use Rattle.numbers.specs.LittleEndian.{unle}
 use Rattle.recording.specs.Work.{Item, item, signal_at, size_at, items_of, items_in, gather}
 use Rattle.recording.proofs.GatherLaws.{length-own, gather-other}
 use Rattle.work.specs.Measure.{part_length, data_length, measured}
-use Rattle.work.specs.Counting.{total, sum, sign, changed, unmarked, scanned}
-use Rattle.work.specs.declared.Measured.TheVariants as measure
+use Rattle.work.specs.Counting.{total, sum, sign, changed, unmarked, sums, scanned}
 use Rattle.work.specs.declared.Scanned.{Scanned}
-use Rattle.work.specs.declared.Scanned.TheVariants.{Sums, Damaged}
 use Rattle.work.proofs.WorkLaws.{Below, with_first, at_place, turn-whole, items-below}
 use Rattle.work.proofs.SumLaws.{sum_same, sum_one, sum-add, sum-plus, sum-le, sum-zero, sum-shift}
 
@@ -171,15 +170,15 @@ unmarked-first m m' base s b is l u p h k =
 -- ---- the pass over the work
 
 -- what is found at last: the bytes and signals so far, with what the rest brings of both, those signals not counted that are in the set m
-abbrev pub onward : (m : ℕ → Bool) (base bytes signals : ℕ) → Option (List Item) → Scanned
-onward m base a c none = Damaged
-onward m base a c (some is) = Sums (a + total is) (c + unmarked m base is)
+abbrev pub onward : (m : ℕ → Bool) (base bytes signals : ℕ) → Option (List Item) → code.Option Scanned
+onward m base a c none = code.None
+onward m base a c (some is) = sums (a + total is) (c + unmarked m base is)
 
 pub onward-start : (m : ℕ → Bool) (base : ℕ) (o : Option (List Item)) → ((i : ℕ) → m i ≡ false) → scanned base o ≡ onward m base 0 0 o
 onward-start m base none h = refl
 onward-start m base (some is) h = rw (zero-add (total is), zero-add (unmarked m base is), unmarked-none m base is h) refl
 
-pub onward-end : (m : ℕ → Bool) (base a c : ℕ) → onward m base a c (some []) ≡ Sums a c
+pub onward-end : (m : ℕ → Bool) (base a c : ℕ) → onward m base a c (some []) ≡ sums a c
 unfolding total
 onward-end m base a c = rw (unmarked-end m base, add-zero a, add-zero c) refl
 
@@ -219,26 +218,28 @@ records-below n w h = items-below (length w) n w (items_in n w) (some-there (ite
 
 -- ---- the answer
 
-pub scan-divides : (x y base : ℕ) (o : Option (List Item)) → Sums x y ≡ scanned base o → is_some o ≡ true
+pub scan-divides : (x y base : ℕ) (o : Option (List Item)) → sums x y ≡ scanned base o → is_some o ≡ true
 scan-divides x y base none e = let z : ◌≡◌ {A = ℕ} 0 1 = cc in absurd (omega arith)
 scan-divides x y base (some is) e = refl
 
-pub scan-sums : (x y base : ℕ) (o : Option (List Item)) → Sums x y ≡ scanned base o → (x ≡ total (or_empty o)) × (y ≡ changed base 65536 (or_empty o))
+pub scan-sums : (x y base : ℕ) (o : Option (List Item)) → sums x y ≡ scanned base o → (x ≡ total (or_empty o)) × (y ≡ changed base 65536 (or_empty o))
 scan-sums x y base none e = let z : ◌≡◌ {A = ℕ} 0 1 = cc in absurd (omega arith)
-scan-sums x y base (some is) e = (cc, cc)
+scan-sums x y base (some is) e =
+    let r : ◌≡◌ {A = Scanned} (record { bytes = x; signals = y }) (record { bytes = total is; signals = changed base 65536 is }) = cc in
+    (ap (λ (s : Scanned). s.bytes) r, ap (λ (s : Scanned). s.signals) r)
 
-pub scan-damaged : (base : ℕ) (o : Option (List Item)) → Damaged ≡ scanned base o → is_some o ≡ true → ⊥
+pub scan-damaged : (base : ℕ) (o : Option (List Item)) → code.None ≡ scanned base o → is_some o ≡ true → ⊥
 scan-damaged base none e h = let z : ◌≡◌ {A = ℕ} 0 1 = cc in absurd (omega arith)
 scan-damaged base (some is) e h = let z : ◌≡◌ {A = ℕ} 0 1 = cc in absurd (omega arith)
 
-pub measured-data : (n x y z : ℕ) (o : Option (List Item)) → Sums x y ≡ scanned 0 o → z ≡ changed 65536 (n - 65536) (or_empty o) → Below n (or_empty o)
-    → measure.Data (x + y + z) ≡ measured n o
+pub measured-data : (n x y z : ℕ) (o : Option (List Item)) → sums x y ≡ scanned 0 o → z ≡ changed 65536 (n - 65536) (or_empty o) → Below n (or_empty o)
+    → code.Some (x + y + z) ≡ measured n o
 measured-data n x y z none e f h = let z : ◌≡◌ {A = ℕ} 0 1 = cc in absurd (omega arith)
 measured-data n x y z (some is) e f h =
     let q = scan-sums x y 0 (some is) e in
     let d : x + y + z ≡ data_length 0 n is = omega (arith, q.0, q.1, f, changed-windows n is h, data-length n is h) in
     rw d refl
 
-pub measured-damaged : (n : ℕ) (o : Option (List Item)) → Damaged ≡ scanned 0 o → measure.Damaged ≡ measured n o
+pub measured-damaged : (n : ℕ) (o : Option (List Item)) → code.None ≡ scanned 0 o → code.None ≡ measured n o
 measured-damaged n none e = refl
 measured-damaged n (some is) e = let z : ◌≡◌ {A = ℕ} 0 1 = cc in absurd (omega arith)

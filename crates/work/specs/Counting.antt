@@ -1,11 +1,11 @@
 -- What measuring adds up: the bytes of all streams, and the signals that have some (proofs/MeasureLaws: both make `data_length`).
 -- Assumes nothing.
 use Rattle.std.specs.Prelude.{ℕ, zero, suc, ◌+◌, Bool, List, [], ◌∷◌, length}
+use Rattle.std.specs.Prelude as code
 use Rattle.std.proofs.Math.Option.{Option, some, none}
 use Rattle.lists.specs.Choice.{pick}
 use Rattle.recording.specs.Work.{Item, gather}
 use Rattle.work.specs.declared.Scanned.{Scanned}
-use Rattle.work.specs.declared.Scanned.TheVariants.{Sums, Damaged}
 
 -- the bytes of all streams
 unfoldable pub total : List Item → ℕ
@@ -30,6 +30,9 @@ unfoldable pub unmarked : (m : ℕ → Bool) (base : ℕ) → List Item → ℕ
 unmarked m base is = sum (λ i. pick (m i) 0 (sign (length (gather (base + i) is)))) 0 65536
 
 -- what one pass finds of work that divides into records, and of work that does not
-abbrev pub scanned : (base : ℕ) → Option (List Item) → Scanned
-scanned base none = Damaged
-scanned base (some is) = Sums (total is) (changed base 65536 is)
+abbrev pub sums : (bytes signals : ℕ) → code.Option Scanned
+sums b n = code.Some (record { bytes = b; signals = n })
+
+abbrev pub scanned : (base : ℕ) → Option (List Item) → code.Option Scanned
+scanned base none = code.None
+scanned base (some is) = sums (total is) (changed base 65536 is)

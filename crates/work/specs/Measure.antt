@@ -1,10 +1,9 @@
 -- How many data bytes the block of some work has: a signal with stream bytes takes these and a class byte.
 -- Assumes nothing.
 use Rattle.std.specs.Prelude.{ℕ, zero, suc, ◌+◌, List, length}
+use Rattle.std.specs.Prelude as code
 use Rattle.std.proofs.Math.Option.{Option, some, none}
 use Rattle.recording.specs.Work.{Item, gather}
-use Rattle.work.specs.declared.Measured.{Measured}
-use Rattle.work.specs.declared.Measured.TheVariants.{Data, Damaged}
 
 abbrev pub part_length : (stream : ℕ) → ℕ
 part_length zero = 0
@@ -16,6 +15,6 @@ data_length g zero is = 0
 data_length g (suc n) is = part_length (length (gather g is)) + data_length (suc g) n is
 
 -- what measuring answers of work that divides into records, and of work that does not
-abbrev pub measured : (signals : ℕ) → Option (List Item) → Measured
-measured s none = Damaged
-measured s (some is) = Data (data_length 0 s is)
+abbrev pub measured : (signals : ℕ) → Option (List Item) → code.Option ℕ
+measured s none = code.None
+measured s (some is) = code.Some (data_length 0 s is)

@@ -7,9 +7,6 @@ use lib.ListN.{length-set}
 use Rattle.lists.proofs.SetsLaws.{part-more}
 use Rattle.copy.proofs.put_part.Goals as goal
 
-pub loop-i-init : goal.loop-i-init
-loop-i-init c = (omega arith, refl, simp (add-zero, sub-zero))
-
 pub loop-i-preserved : goal.loop-i-preserved
 loop-i-preserved c =
     let l = c.loop-i in
@@ -18,10 +15,4 @@ loop-i-preserved c =
     let f1 : a.from + (l.i + 1) ≡ suc (a.from + l.i) = omega arith in
     let n1 : a.count - l.i ≡ suc (a.count - (l.i + 1)) = omega arith in
     let e = part-more (a.count - (l.i + 1)) (a.from + l.i) a.src.now (omega arith) in
-    (omega arith, simp length-set l.invariant.1, rw (i1, f1, ← l.invariant.2, n1, e) refl)
-
-pub returns : goal.returns
-returns c =
-    let l = c.loop-i in
-    let z : c.args.count - l.i ≡ 0 = omega arith in
-    (refl, rw (← l.invariant.2, z) refl)
+    (simp length-set l.invariant.0, rw (i1, f1, ← l.invariant.1, n1, e) refl)

@@ -9,7 +9,7 @@ returns-then-repeats_last c =
     let p = c in
     let a = p.args in (
       p.requires.1,
-      kept_same (point_as a.kind a.image.now a.state) a.time (content_read a.kind a.image.now a.value a.next) _
+      kept_same (point_as a.kind a.image.now a.state) a.time (content_read a.kind a.image.now a.change.value a.change.next) _
           c.repeats_last.ensures c.if-repeats_last.true,
     )
 
@@ -18,6 +18,6 @@ returns c =
     let p = c in
     let a = p.args in (
       p.requires.1,
-      kept_new (point_as a.kind a.image.now a.state) a.time (content_read a.kind a.image.now a.value a.next) _
+      kept_new (point_as a.kind a.image.now a.state) a.time (content_read a.kind a.image.now a.change.value a.change.next) _
           c.repeats_last.ensures c.if-repeats_last.false,
     )

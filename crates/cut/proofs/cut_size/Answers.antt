@@ -1,34 +1,27 @@
 -- By what the measure says.
 -- Assumes nothing.
+use mathlib.Core.Path.{sym, ◌∙◌}
 use native.Mathlib.Omega.{arith}
-use Rattle.cut.proofs.CutLaws.{used-length, size-damaged, size-full, size_fits}
+use Rattle.cut.proofs.CutLaws.{size-damaged, size-full, size_fits}
 use Rattle.cut.proofs.cut_size.Goals as goal
+use Rattle.cut.proofs.cut_size.Goals.{then-free-fixed-via-then-free-fixed, then-free-fixed-via-else-free-fixed+then-free-fixed-2}
 
-pub slice_bounds-measure-end : goal.slice_bounds-measure-end
-slice_bounds-measure-end c =
-    let p = c in
-    used-length p.args.state.work p.args.work.now p.requires.0
+pub returns-in_default : goal.returns-in_default
+returns-in_default c =
+    let a = c.args in
+    size-damaged a.state a.work.now a.image c.requires.0 (sym c.in_default.is ∙ c.measure.ensures)
 
 pub returns-then-free-fixed : goal.returns-then-free-fixed
 returns-then-free-fixed c =
-    let p = c in
-    let q = c.measure.ensures in
-    size-full p.args.state p.args.work.now p.args.image p.requires.0 _ q c.in-Data.is (omega arith)
+    let a = c.args in
+    let q = sym c.in-Some.is ∙ c.measure.ensures in
+    elim c.then-free-fixed.branch [
+      | then-free-fixed-via-then-free-fixed w ↦ size-full a.state a.work.now a.image c.requires.0 _ q (omega arith)
+      | then-free-fixed-via-else-free-fixed+then-free-fixed-2 w ↦ size-full a.state a.work.now a.image c.requires.0 _ q (omega arith)
+    ]
 
-pub returns-then-free-fixed-2 : goal.returns-then-free-fixed-2
-returns-then-free-fixed-2 c =
-    let p = c in
-    let q = c.measure.ensures in
-    size-full p.args.state p.args.work.now p.args.image p.requires.0 _ q c.in-Data.is (omega arith)
-
-pub returns-else-free-fixed-2 : goal.returns-else-free-fixed-2
-returns-else-free-fixed-2 c =
-    let p = c in
-    let q = c.measure.ensures in
-    rw c.data_start-fixed.ensures
-    (size_fits p.args.state p.args.work.now p.args.image p.requires.0 _ q c.in-Data.is (omega arith))
-
-pub returns-in-Damaged : goal.returns-in-Damaged
-returns-in-Damaged c =
-    let p = c in
-    size-damaged p.args.state p.args.work.now p.args.image p.requires.0 c.measure.ensures c.in-Damaged.is
+pub returns : goal.returns
+returns c =
+    let a = c.args in
+    let q = sym c.in-Some.is ∙ c.measure.ensures in
+    rw c.data_start-fixed.ensures (size_fits a.state a.work.now a.image c.requires.0 _ q (omega arith))

@@ -1,11 +1,7 @@
--- The invariant: the number of the i digits passed has 4 i bits, and with the digits that follow it is the number asked.
+-- The invariant: the number of the digits passed has 4 bits for each, and with the digits that follow it is the number asked.
 -- Assumes nothing.
-use Prim.Native.Nat.{◌^◌, ◌<◌, ◌≤◌}
-use mathlib.Core.Path.{sym}
-use native.Mathlib.Omega.{arith}
-use native.Mathlib.Numerals.{add-one}
+use Rattle.std.proofs.Common.{◌^◌, ◌≤◌, ◌≡◌, sym, arith, add-one, get_or}
 use native.Mathlib.Nat.{pow-suc, pow-le-pow_right}
-use lib.ListN.{get_or}
 use Rattle.digits.specs.Numbers.{digit_of}
 use Rattle.digits.proofs.NumberLaws.{digits-end, digits-bad, digits-next, bits-short, bits-digits}
 use Rattle.digits.proofs.bits.Goals as goal
@@ -13,39 +9,38 @@ use Rattle.digits.proofs.bits.Goals as goal
 pub returns-then-s-ne16 : goal.returns-then-s-ne16
 returns-then-s-ne16 c = sym (bits-short c.args.s.now c.if-s-ne16.true)
 
-pub loop-i-init : goal.loop-i-init
-loop-i-init c = (omega arith, omega arith, sym (bits-digits c.args.s.now c.if-s-ne16.false))
-
-pub returns-then-x-gt15 : goal.returns-then-x-gt15
-returns-then-x-gt15 c =
-    let l = c.loop-i in
-    let s = c.args.s.now in
-    let d : 16 ≤ digit_of (get_or s l.i 0) = omega arith in
-    rw (digits-bad 16 l.value s l.i (omega arith) d) at l.invariant.2
+pub loop-b-init : goal.loop-b-init
+loop-b-init c = record { small = omega arith; same = sym (bits-digits c.args.s.now c.if-s-ne16.false) }
 
 pub overflow_mul-value : goal.overflow_mul-value
 overflow_mul-value c =
-    let l = c.loop-i in
-    let j : l.i ≤ 15 = omega arith in
-    let p : 16 ^ l.i ≤ 16 ^ 15 = pow-le-pow_right (omega arith) j in
+    let j : c.loop-b.b-index ≤ 15 = omega arith in
+    let p : 16 ^ c.loop-b.b-index ≤ 16 ^ 15 = pow-le-pow_right (omega arith) j in
     omega arith
+
+pub returns-in_err-digit : goal.returns-in_err-digit
+returns-in_err-digit c =
+    let l = c.loop-b in
+    rw c.from_residual.ensures (rw (digits-bad 16 l.value c.args.s.now l.b-index (omega arith) (let n = c.in_err-digit.ensures in omega arith)) at l.invariant.same)
 
 pub overflow_add-value : goal.overflow_add-value
 overflow_add-value c =
-    let l = c.loop-i in
-    let j : l.i ≤ 15 = omega arith in
-    let p : 16 ^ l.i ≤ 16 ^ 15 = pow-le-pow_right (omega arith) j in
-    omega arith
+    let j : c.loop-b.b-index ≤ 15 = omega arith in
+    let p : 16 ^ c.loop-b.b-index ≤ 16 ^ 15 = pow-le-pow_right (omega arith) j in
+    omega (arith, c.in_ok-digit.ensures.0, c.in_ok-digit.ensures.1, c.from.ensures)
 
-pub loop-i-preserved : goal.loop-i-preserved
-loop-i-preserved c =
-    let l = c.loop-i in
+pub loop-b-preserved : goal.loop-b-preserved
+loop-b-preserved c =
+    let l = c.loop-b in
     let s = c.args.s.now in
-    let d : digit_of (get_or s l.i 0) < 16 = omega arith in
-    let n = digits-next 16 l.value s l.i (omega arith) d in
-    (omega arith, rw (add-one l.i, pow-suc 16 l.i) (omega arith), rw (add-one l.i, c.digit-x.ensures.0) (rw n at l.invariant.2))
+    let e : c.from.result ≡ digit_of (get_or s l.b-index 0) = omega (arith, c.in_ok-digit.ensures.1, c.from.ensures) in
+    let n = digits-next 16 l.value s l.b-index (omega arith) c.in_ok-digit.ensures.0 in
+    record {
+      small = rw (add-one l.b-index, pow-suc 16 l.b-index) (omega (arith, c.in_ok-digit.ensures.0));
+      same = rw (add-one l.b-index, e) (rw n at l.invariant.same);
+    }
 
 pub returns : goal.returns
 returns c =
-    let l = c.loop-i in
-    rw (digits-end 16 l.value c.args.s.now l.i (omega arith)) at l.invariant.2
+    let l = c.loop-b in
+    rw (digits-end 16 l.value c.args.s.now l.b-index (omega arith)) at l.invariant.same

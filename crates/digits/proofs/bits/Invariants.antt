@@ -1,13 +1,11 @@
--- The invariant: the number of the i digits passed has 4 i bits, and with the digits that follow it is the number asked.
+-- The invariant: the number of the digits passed has 4 bits for each, and with the digits that follow it is the number asked.
 -- Assumes nothing.
-use Prim.Native.Nat.{◌-◌, ◌^◌, ◌<◌, ◌≤◌}
-use mathlib.Core.Path.{◌≡◌}
-use lib.ListN.{length, drop}
+use Rattle.std.proofs.Common.{◌≡◌, ◌<◌, ◌^◌, drop}
 use Rattle.digits.specs.Numbers.{digits_from, bits_of}
 use Rattle.digits.proofs.bits.Given as goal
 
-abbrev pub invariant-loop-i : goal.invariant-loop-i
-invariant-loop-i l = (l.i ≤ length l.s) × (l.value < 16 ^ l.i) × (digits_from 16 l.value (drop l.i l.s) ≡ bits_of l.s)
-
-abbrev pub decreases-loop-i : goal.decreases-loop-i
-decreases-loop-i l = length l.s - l.i
+abbrev pub invariant-loop-b : goal.invariant-loop-b
+invariant-loop-b l = record {
+  small : l.value < 16 ^ l.b-index;
+  same : digits_from 16 l.value (drop l.b-index l.s) ≡ bits_of l.s;
+}

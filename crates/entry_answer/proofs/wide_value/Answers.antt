@@ -23,7 +23,7 @@ raw_part-requires c =
     let p = c in
     let a = p.args in
     own-inside a.width (class_number a.class) _ _ a.bytes.now a.out.now p.requires.0 c.class_in-own.ensures
-    c.number.ensures _ _ c.if-number-own.false (number_small a.class) c.from_number-states.ensures c.bytes_required.ensures
+    c.number.ensures _ _ c.if-number-own.false (number_small a.class) (rw c.from.ensures at c.from_number-states.ensures) c.bytes_required.ensures
     p.requires.1
 
 pub packed_value-requires : goal.packed_value-requires
@@ -33,7 +33,7 @@ packed_value-requires c =
       p.requires.2,
       part-inside a.width (class_number a.class) _ _ a.bytes.now a.out.now p.requires.0
           c.class_in-own.ensures c.number.ensures _ _
-          c.if-number-own.false (number_small a.class) c.from_number-states.ensures c.bytes_required.ensures _
+          c.if-number-own.false (number_small a.class) (rw c.from.ensures at c.from_number-states.ensures) c.bytes_required.ensures _
           p.requires.1 c.raw_part.ensures,
     )
 
@@ -44,5 +44,5 @@ returns c =
     wide-shown a.width (class_number a.class) _ _ a.bytes.now a.out.now p.requires.0
     c.class_in-own.ensures
     c.number.ensures _ _ c.if-number-own.false
-    (number_small a.class) c.from_number-states.ensures c.bytes_required.ensures _ _
+    (number_small a.class) (rw c.from.ensures at c.from_number-states.ensures) c.bytes_required.ensures _ _
     c.raw_part.ensures c.packed_value.ensures

@@ -10,43 +10,43 @@ use Rattle.entry.specs.Read.{bits_in}
 use Rattle.entry.proofs.ReadThere.{reads-there}
 use Rattle.entry_put.proofs.PutLaws.{event-entry, bit-entry, bit-small, real-entry, absent-entry, wide-put, WidePut}
 use Rattle.entry_put.proofs.put_entry.Goals as goal
-use Rattle.entry_put.proofs.put_entry.Goals.{After-states_in}
+use Rattle.entry_put.proofs.put_entry.Goals.{After-states}
 
 -- what is known of a wider vector
-vector : (c : goal.After-states_in) →
+vector : (c : goal.After-states) →
     let a = c.args in
-    WidePut a.kind c.in-BitVector.width (class_number a.class) (class_number c.states_in.result) a.stream.now a.change a.next
+    WidePut a.kind c.in-BitVector.width (class_number a.class) (class_number c.states.result) a.stream.now a.change.value a.change.next
 vector c =
     let p = c in
     let a = p.args in
-    wide-put a.kind _ (class_number a.class) (class_number c.states_in.result) a.stream.now a.change a.next
-    (λ j. (c.shared_slice_known-1.given j).fits) p.requires.reads.0 p.requires.reads.1 (number_small a.class)
-    c.in-BitVector.is c.if-width-eq0.false c.if-width-eq1.false (ap class_number c.states_in.ensures)
+    wide-put a.kind _ (class_number a.class) (class_number c.states.result) a.stream.now a.change.value a.change.next
+    (λ j. (c.type_inv.stream j).fits) p.requires.reads.0 p.requires.reads.1 (number_small a.class)
+    c.in-BitVector.is c.if-width-eq0.false c.if-width-eq1.false (ap class_number c.states.ensures)
 
 pub returns-then-width-eq0 : goal.returns-then-width-eq0
 returns-then-width-eq0 c =
     let p = c in
     let a = p.args in
-    rw (event-entry a.kind (class_number a.class) _ a.stream.now a.change a.next c.in-BitVector.is c.if-width-eq0.true) (sym (add-zero a.at), refl)
+    rw (event-entry a.kind (class_number a.class) _ a.stream.now a.change.value a.change.next c.in-BitVector.is c.if-width-eq0.true) (sym (add-zero a.at), refl)
 
 pub put_bit-requires : goal.put_bit-requires
 put_bit-requires c =
     let p = c in
     let a = p.args in
-    let e = bit-entry a.kind (class_number a.class) _ a.stream.now a.change a.next c.in-BitVector.is c.if-width-eq1.true in
-    let r = reads-there a.kind a.stream.now a.change a.next (λ j. (c.shared_slice_known-1.given j).fits) p.requires.reads.0 in
-    let s = bit-small a.kind (class_number a.class) _ a.stream.now a.change a.next r.fits c.in-BitVector.is
+    let e = bit-entry a.kind (class_number a.class) _ a.stream.now a.change.value a.change.next c.in-BitVector.is c.if-width-eq1.true in
+    let r = reads-there a.kind a.stream.now a.change.value a.change.next (λ j. (c.type_inv.stream j).fits) p.requires.reads.0 in
+    let s = bit-small a.kind (class_number a.class) _ a.stream.now a.change.value a.change.next r.fits c.in-BitVector.is
     c.if-width-eq1.true in
-    (rw c.bit_in.ensures s, omega (arith, ap length e, p.requires.next_in_bounds))
+    (rw c.bit.ensures s, omega (arith, ap length e, p.requires.next_in_bounds))
 
 pub returns-then-width-eq1 : goal.returns-then-width-eq1
 returns-then-width-eq1 c =
     let p = c in
     let a = p.args in
-    let e = bit-entry a.kind (class_number a.class) _ a.stream.now a.change a.next
+    let e = bit-entry a.kind (class_number a.class) _ a.stream.now a.change.value a.change.next
     c.in-BitVector.is c.if-width-eq1.true in
     let f = c.put_bit.ensures in
-    rw e (rw c.bit_in.ensures at f)
+    rw e (rw c.bit.ensures at f)
 
 pub put_wide-requires : goal.put_wide-requires
 put_wide-requires c =
@@ -59,14 +59,14 @@ pub put_u64-requires : goal.put_u64-requires
 put_u64-requires c =
     let p = c in
     let a = p.args in
-    let e = real-entry a.kind (class_number a.class) 0 a.stream.now a.change a.next c.in-Real.is in
-    omega (arith, ap length e, length-le 8 (bits_in a.change), p.requires.next_in_bounds)
+    let e = real-entry a.kind (class_number a.class) 0 a.stream.now a.change.value a.change.next c.in-Real.is in
+    omega (arith, ap length e, length-le 8 (bits_in a.change.value), p.requires.next_in_bounds)
 
 pub returns-else-width-eq1 : goal.returns-else-width-eq1
 returns-else-width-eq1 c =
     let p = c in
     let a = p.args in
-    let g = vector (goal.at.returns-else-width-eq1 c).After-states_in in
+    let g = vector (goal.at.returns-else-width-eq1 c).After-states in
     let f = c.put_wide.ensures in
     (rw g.size f.0, rw g.bytes f.1)
 
@@ -74,12 +74,12 @@ pub returns-in-Real : goal.returns-in-Real
 returns-in-Real c =
     let p = c in
     let a = p.args in
-    let e = real-entry a.kind (class_number a.class) 0 a.stream.now a.change a.next c.in-Real.is in
+    let e = real-entry a.kind (class_number a.class) 0 a.stream.now a.change.value a.change.next c.in-Real.is in
     let f = c.put_u64.ensures in
-    rw (e, length-le 8 (bits_in a.change)) (rw c.bits_in.ensures at f)
+    rw (e, length-le 8 (bits_in a.change.value)) (rw c.bits.ensures at f)
 
 pub returns-in-Absent : goal.returns-in-Absent
 returns-in-Absent c =
     let p = c in
     let a = p.args in
-    rw (absent-entry a.kind (class_number a.class) 0 a.stream.now a.change a.next c.in-Absent.is) (sym (add-zero a.at), refl)
+    rw (absent-entry a.kind (class_number a.class) 0 a.stream.now a.change.value a.change.next c.in-Absent.is) (sym (add-zero a.at), refl)

@@ -1,20 +1,19 @@
--- The argument is the whole rest of the line.
+-- Each part in its turn.
 -- Assumes nothing.
-use mathlib.Core.Path.{refl}
-use Rattle.line.specs.Words.{after}
-use Rattle.line.specs.Line.{edition_of}
+use Rattle.std.proofs.Common.{◌∙◌, sym, refl, ap}
+use Rattle.line.specs.Line.{number32, edition_of}
 use Rattle.line.specs.Command.{shown}
-use Rattle.line.proofs.CallLaws.{number32-read}
 use Rattle.line.proofs.read_edition.Goals as goal
 
-pub returns-in-Value : goal.returns-in-Value
-unfolding shown edition_of
-returns-in-Value c =
-    rw (number32-read _ _ _ (after 1 c.args.line.now) c.decimal_32.ensures
-    c.after.ensures c.in-Value.is) refl
+pub returns-in_err-decimal_32 : goal.returns-in_err-decimal_32
+unfolding edition_of
+returns-in_err-decimal_32 c =
+    rw (
+      c.from_residual.ensures,
+      sym (c.in_err-decimal_32.ensures ∙ ap (number32) c.after.ensures),
+    ) refl
 
-pub returns-in-None : goal.returns-in-None
-unfolding shown edition_of
-returns-in-None c =
-    rw (number32-read _ _ _ (after 1 c.args.line.now) c.decimal_32.ensures
-    c.after.ensures c.in-None.is) refl
+pub returns : goal.returns
+unfolding edition_of shown
+returns c =
+    rw (sym (c.in_ok-decimal_32.ensures ∙ ap (number32) c.after.ensures)) refl

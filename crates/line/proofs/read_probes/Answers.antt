@@ -1,15 +1,14 @@
--- All words after the first, or none.
+-- Each part in its turn.
 -- Assumes nothing.
-use mathlib.Core.Path.{refl, sym, ◌∙◌}
-use Rattle.lists.proofs.ChoiceLaws.{some-there, none-there}
+use Rattle.std.proofs.Common.{[], refl}
 use Rattle.line.specs.Line.{probes_in, probes_of}
 use Rattle.line.specs.Command.{shown}
+use Rattle.line.specs.declared.Command.TheVariants as command
+use Rattle.line.specs.Line.{probes}
+use Rattle.line.proofs.CallLaws.{said-then}
 use Rattle.line.proofs.read_probes.Goals as goal
 
-pub returns-then-has_probes : goal.returns-then-has_probes
-unfolding shown probes_of
-returns-then-has_probes c = rw (some-there (probes_in c.args.line.now) (sym c.has_probes.ensures ∙ c.if-has_probes.true)) refl
-
 pub returns : goal.returns
-unfolding shown probes_of
-returns c = rw (none-there (probes_in c.args.line.now) (sym c.has_probes.ensures ∙ c.if-has_probes.false)) refl
+unfolding probes_of shown
+returns c =
+    said-then c.args.line.now (probes_in c.args.line.now) [] probes command.Probes c.then_some.ensures c.has_probes.ensures refl

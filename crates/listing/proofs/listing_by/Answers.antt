@@ -34,5 +34,5 @@ returns c =
     let s = c in
     let h = text-made (goal.at.returns c).After-listing_text-n in
     into-long (listing_of s.args.image.now) s.args.out.now c.put_text.new.out
-    c.listing_text-n.result h.count c.if-out-n.false
+    c.put_text.result (omega (arith, c.put_text.ensures.place, ap length h.is)) (omega (arith, c.put_text.ensures.place, ap length h.is, h.count, c.if-out-n.false))
     (c.put_text.ensures.held ∙ ap (sets s.args.out.now 0) h.is)

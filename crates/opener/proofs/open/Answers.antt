@@ -4,7 +4,7 @@ use Rattle.opener.proofs.OpenLaws.{head-says, open-head, open_blocks}
 use Rattle.opener.proofs.open.Goals as goal
 
 pub returns-then-not-is_head : goal.returns-then-not-is_head
-returns-then-not-is_head c = open-head _ (λ j. (c.shared_slice_known-1.given j).fits) _ c.is_head.ensures (c.if-not-is_head.true)
+returns-then-not-is_head c = open-head _ (λ j. (c.type_inv.image j).fits) _ c.is_head.ensures (c.if-not-is_head.true)
 
 pub get_u32-requires : goal.get_u32-requires
 get_u32-requires c = let w = head-says _ (sym c.is_head.ensures ∙ c.if-not-is_head.false) in let h = w.0 in omega arith
@@ -23,6 +23,6 @@ blocks_fill-requires c =
 
 pub returns : goal.returns
 returns c =
-    open_blocks _ (λ j. (c.shared_slice_known-1.given j).fits) _
+    open_blocks _ (λ j. (c.type_inv.image j).fits) _
     c.is_head.ensures _ _ _ _ (c.if-not-is_head.false)
     c.get_u32.ensures c.get_u32-2.ensures c.get_u32-3.ensures c.blocks_fill.ensures

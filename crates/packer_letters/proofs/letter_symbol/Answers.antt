@@ -5,7 +5,7 @@ use Rattle.packer_letters.proofs.LetterLaws.{two-letter, four-letter, nine-lette
 use Rattle.packer_letters.proofs.letter_symbol.Goals as goal
 
 pub overflow_mul-place : goal.overflow_mul-place
-overflow_mul-place c = omega (arith, c.wide.ensures)
+overflow_mul-place c = omega (arith, c.from.ensures)
 
 pub returns-in-Two : goal.returns-in-Two
 returns-in-Two c = let s = c in two-letter s.args.letter (search rules) (rw c.in-Two.is at s.requires)
@@ -16,4 +16,4 @@ returns-in-Four c = let s = c in four-letter s.args.letter (search rules) (rw c.
 pub returns-in-Nine : goal.returns-in-Nine
 returns-in-Nine c =
     let s = c in
-    rw c.wide.ensures (nine-letter s.args.letter (search rules) (rw c.in-Nine.is at s.requires))
+    rw c.from.ensures (nine-letter s.args.letter (search rules) (rw c.in-Nine.is at s.requires))

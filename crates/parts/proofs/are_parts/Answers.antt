@@ -6,27 +6,26 @@ use Rattle.parts.proofs.SignalLaws.{start_none, turn_is, wrong-all, are-wrong, a
 use Rattle.parts.proofs.are_parts.Goals as goal
 
 pub loop-i-init : goal.loop-i-init
-loop-i-init c = (omega arith, omega arith, start_none _ _ _ _ _ _ _ _ refl)
+loop-i-init c = (omega arith, start_none _ _ _ _ _ _ _ _ refl)
 
 pub loop-i-preserved : goal.loop-i-preserved
 loop-i-preserved c =
     let l = c.loop-i in let o = c.one_part.ensures in
-    let w = one_lower _ _ _ _ _ _ _ o c.in-From.is in (
+    let w = one_lower _ _ _ _ _ _ _ o c.in-Some.is in (
       omega arith,
-      omega arith,
-      turn_is _ _ _ _ _ _ _ _ _ _ _ _ (omega arith) (omega arith) l.invariant.2
+      turn_is _ _ _ _ _ _ _ _ _ _ _ _ (omega arith) (omega arith) l.invariant.1
           (c.kind_from-kind.ensures ∙ ap kind_from c.get_u32.ensures)
-          c.get_u32-in-loop-i.ensures o ∙ c.in-From.is,
+          c.get_u32-in-loop-i.ensures o ∙ c.in-Some.is,
     )
 
-pub returns-in-Wrong : goal.returns-in-Wrong
-returns-in-Wrong c =
+pub returns-in_default : goal.returns-in_default
+returns-in_default c =
     let l = c.loop-i in
     are-wrong _ _ _ _ _ _ _
     (wrong-all _ _ _ _ _ _ _ (l.i - 1) (omega arith)
-    (turn_is _ _ _ _ _ _ _ _ _ _ _ _ (omega arith) (omega arith) l.invariant.2
+    (turn_is _ _ _ _ _ _ _ _ _ _ _ _ (omega arith) (omega arith) l.invariant.1
     (c.kind_from-kind.ensures ∙ ap kind_from c.get_u32.ensures)
-    c.get_u32-in-loop-i.ensures c.one_part.ensures ∙ c.in-Wrong.is))
+    c.get_u32-in-loop-i.ensures c.one_part.ensures ∙ c.in_default.is))
 
 pub returns : goal.returns
-returns c = are-from _ _ _ _ _ _ _ _ _ (omega arith) c.loop-i.invariant.2
+returns c = are-from _ _ _ _ _ _ _ _ _ (omega arith) c.loop-i.invariant.1

@@ -17,8 +17,8 @@ returns-then-is_part c =
     one-part _ _ _ _ _ a.s.now a.base true (a.base + a.from - (a.base + (a.offset.0 - 1))) (a.base + (a.offset.0 - 1)) refl
     c.if-stored-eq0.false c.if-from-stored.false (sym c.if-is_part.true ∙ c.is_part.ensures) (omega arith) refl
 
-pub returns : goal.returns
-returns c =
+pub returns-else-is_part : goal.returns-else-is_part
+returns-else-is_part c =
     let a = c.args in
     one-part _ _ _ _ _ a.s.now a.base false (a.base + a.from - (a.base + (a.offset.0 - 1))) (a.base + (a.offset.0 - 1)) refl
     c.if-stored-eq0.false c.if-from-stored.false (sym c.if-is_part.false ∙ c.is_part.ensures) (omega arith) refl

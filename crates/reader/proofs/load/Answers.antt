@@ -1,19 +1,10 @@
--- The opener first.
+-- Of an image that the opener accepts.
 use mathlib.Core.Path.{sym, ◌∙◌}
-use Rattle.walk.proofs.OpenLaws.{load-opened, load-closed}
+use Rattle.walk.proofs.OpenLaws.{load-opened}
 use Rattle.reader.proofs.load.Goals as goal
-
-pub returns-then-not-open : goal.returns-then-not-open
-returns-then-not-open c =
-    let a = c.args in
-    load-closed a.image.now a.signal.0 a.index.now a.bytes.now (sym c.open.ensures ∙ c.if-not-open.true)
-
-pub load_in-requires : goal.load_in-requires
-load_in-requires c = (sym c.open.ensures ∙ c.if-not-open.false)
 
 pub returns : goal.returns
 returns c =
     let a = c.args in
-    c.load_in.ensures
-    ∙ sym (load-opened a.image.now a.signal.0 a.index.now a.bytes.now
-    (sym c.open.ensures ∙ c.if-not-open.false))
+    let i = c.in_ok-image_of.field-0 in
+    rw c.in_ok-image_of.ensures at (c.load_in.ensures ∙ sym (load-opened i.bytes.now a.signal.0 a.index.now a.bytes.now i.opened))

@@ -1,10 +1,6 @@
--- The opener first.
-use mathlib.Core.Path.{sym, ◌∙◌}
+-- Of no image.
 use Rattle.walk.proofs.OpenLaws.{stream-closed}
 use Rattle.reader.proofs.stream.Goals as goal
 
-pub returns-then-not-open : goal.returns-then-not-open
-returns-then-not-open c = let a = c.args in stream-closed a.image.now a.block a.signal.0 (sym c.open.ensures ∙ c.if-not-open.true)
-
-pub stream_in-requires : goal.stream_in-requires
-stream_in-requires c = (sym c.open.ensures ∙ c.if-not-open.false)
+pub returns-in-None : goal.returns-in-None
+returns-in-None c = let a = c.args in stream-closed a.image.now a.block a.signal.0 c.in-None.ensures

@@ -12,12 +12,12 @@ use Rattle.stream_write.proofs.put_raw_change.Goals.{After-put_vector-arg-1}
 said : (c : goal.After-put_vector-arg-1) →
     let p = c in let a = p.args in
     VectorSaid a.kind a.d (raw a.claim a.value.now) c.in-MultiBit.states
-    (Packed c.from_class-claimed.result) c.width-width.result c.raw_part-part.result.now
+    (Packed c.from_number-claimed.result) c.width-width.result c.raw_part-part.result.now
 said c =
     let p = c in
     let a = p.args in
     packed-written a.kind a.d a.claim a.value.now a.change _ _ _ _ p.requires.d_le_max_delta.1 c.in-MultiBit.is
-    c.from_class-claimed.ensures c.width-width.ensures
+    c.from_number-claimed.ensures c.width-width.ensures
     (part-said a.value.now _ _ _ c.bytes_required.ensures c.raw_part-part.ensures)
 
 pub put_bit-requires : goal.put_bit-requires
@@ -31,8 +31,8 @@ raw_part-part-requires c =
     let p = c in
     let a = p.args in
     let r = raw-claimed a.kind a.d a.claim a.value.now a.change _ p.requires.d_le_max_delta.1 c.in-MultiBit.is in
-    enough-said (width_of a.kind) a.claim a.value.now _ c.from_class-claimed.result _ r.claimed r.enough c.width-width.ensures
-    c.from_class-claimed.ensures c.bytes_required.ensures
+    enough-said (width_of a.kind) a.claim a.value.now _ c.from_number-claimed.result _ r.claimed r.enough c.width-width.ensures
+    c.from_number-claimed.ensures c.bytes_required.ensures
 
 pub put_vector-requires : goal.put_vector-requires
 put_vector-requires c =

@@ -1,62 +1,36 @@
 -- A text is bad or in the class of its symbols, by the tests on its length and its first symbol; the extension leaves the class.
-use mathlib.Core.Path.{◌≡◌, refl, ap, sym, ◌∙◌}
-use mathlib.Core.Bool.{◌||◌}
+use Rattle.std.proofs.Common.{◌≡◌, refl, ap, sym, ◌∙◌, ◌||◌, eqb, length, get_or, rules}
 use borrow.Author.Tests.{eq-eqb, ne_eqb}
-use borrow.Author.Rules.{rules}
-use lib.Dec.{eqb}
-use lib.ListN.{length, get_or}
-use Rattle.lists.specs.Choice.{pick}
-use Rattle.value.specs.Symbol.{symbol_of, or_number}
+use Rattle.lists.proofs.ChoiceLaws.{then_some_pick}
 use Rattle.value.specs.Change.{change_of}
-use Rattle.value.specs.declared.change.BitVecChange.TheVariants.{MultiBit, Bad}
-use Rattle.value.specs.declared.states.MaybeStates.TheVariants.{Some}
-use Rattle.vcd.specs.Vcd.{extends, symbols_in, text_symbols, ascii_states}
+use Rattle.value.specs.Symbol.{symbol_of, or_number}
+use Rattle.vcd.specs.Vcd.{extends}
 use Rattle.vcd.proofs.VcdLaws.{text-empty, text-long, text-bad, first-symbol, text-change}
 use Rattle.vcd_decode.proofs.decode_vcd_text.Goals as goal
-use Rattle.vcd_decode.proofs.decode_vcd_text.Goals.{In-Some, After-extends_left}
+use Rattle.vcd_decode.proofs.decode_vcd_text.Goals.{Joined-text-width, then-is_empty-via-then-is_empty, then-is_empty-via-else-is_empty+then-width-text, then-text-width, else-text-width}
 
--- every byte has a symbol
-class : (c : goal.In-Some) → ascii_states (symbols_in c.args.text.now) ≡ Some c.in-Some.states
-class c = sym c.states_from_ascii.ensures ∙ c.in-Some.is
+pub returns-then-is_empty : goal.returns-then-is_empty
+returns-then-is_empty c = elim c.then-is_empty.branch [
+  | then-is_empty-via-then-is_empty w ↦ let h = w.if-is_empty in sym (ap (change_of _) (text-empty _ c.args.text.now (search rules)))
+  | then-is_empty-via-else-is_empty+then-width-text w ↦ sym (ap (change_of _) (text-long _ c.args.text.now w.if-width-text.true))
+]
 
--- the answer there
-change : (c : goal.In-Some) → let a = c.args in
-    change_of a.width (text_symbols a.width a.text.now)
-    ≡ pick (eqb (length a.text.now) a.width || extends (or_number 255 (symbol_of (get_or a.text.now 0 0))))
-    (MultiBit c.in-Some.states)
-    Bad
-change c =
+pub returns-in_err-states : goal.returns-in_err-states
+returns-in_err-states c = c.from_residual.ensures ∙ sym (ap (change_of _) (text-bad _ _ (search rules) (search rules) (sym c.states_from_ascii.ensures ∙ c.in_err-states.was)))
+
+pub extends_left-whole-requires : goal.extends_left-whole-requires
+extends_left-whole-requires c = first-symbol _ (search rules) (sym c.states_from_ascii.ensures ∙ c.in_ok-states.was)
+
+-- the code's test is the law's
+whole : (c : goal.Joined-text-width) → let a = c.args in
+    c.if-text-width.whole ≡ (eqb (length a.text.now) a.width || extends (or_number 255 (symbol_of (get_or a.text.now 0 0))))
+whole c = elim c.if-text-width.branch [
+  | then-text-width w ↦ w.whole-is ∙ sym (rw (eq-eqb _ _ w.if-text-width.true) refl)
+  | else-text-width w ↦ w.whole-is ∙ w.extends_left-whole.ensures ∙ sym (rw (ne_eqb _ _ w.if-text-width.false) refl)
+]
+
+pub returns : goal.returns
+returns c =
     let a = c.args in
-    text-change a.width a.text.now (search rules) (search rules) (search rules) (class c)
-
-pub returns-then-text-eq0 : goal.returns-then-text-eq0
-returns-then-text-eq0 c = sym (ap (change_of _) (text-empty _ c.args.text.now (search rules)))
-
-pub returns-then-width-text : goal.returns-then-width-text
-returns-then-width-text c =
-    let a = c.args in
-    sym (ap (change_of _) (text-long a.width a.text.now (search rules)))
-
-pub returns-then-text-width : goal.returns-then-text-width
-returns-then-text-width c = sym (change (goal.at.returns-then-text-width c).In-Some ∙ rw (eq-eqb _ _ c.if-text-width.true) refl)
-
-pub extends_left-requires : goal.extends_left-requires
-extends_left-requires c = first-symbol _ (search rules) (class (goal.at.extends_left-requires c).In-Some)
-
--- a short text, by whether its first symbol extends
-short : (c : goal.After-extends_left) → let a = c.args in
-    change_of a.width (text_symbols a.width a.text.now)
-    ≡ pick c.extends_left.result (MultiBit c.in-Some.states) Bad
-short c = (let a = c.args in text-change a.width a.text.now (search rules) (search rules) (search rules) (sym c.states_from_ascii.ensures ∙ c.in-Some.is))
-    ∙ rw (ne_eqb _ _ c.if-text-width.false, ← c.extends_left.ensures) refl
-
-pub returns-then-extends_left : goal.returns-then-extends_left
-returns-then-extends_left c = sym (short (goal.at.returns-then-extends_left c).After-extends_left ∙ rw c.if-extends_left.true refl)
-
-pub returns-in-None : goal.returns-in-None
-returns-in-None c =
-    let bad = sym c.states_from_ascii.ensures ∙ c.in-None.is in
-    sym (ap (change_of _) (text-bad _ _ (search rules) (search rules) bad))
-
-pub returns-else-extends_left : goal.returns-else-extends_left
-returns-else-extends_left c = sym (short (goal.at.returns-else-extends_left c).After-extends_left ∙ rw c.if-extends_left.false refl)
+    let law = text-change a.width a.text.now c.requires (search rules) (search rules) (sym c.states_from_ascii.ensures ∙ c.in_ok-states.was) in
+    c.then_some.ensures ∙ then_some_pick _ _ ∙ rw (whole (goal.at.returns c).Joined-text-width) (sym law)

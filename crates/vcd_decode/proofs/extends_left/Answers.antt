@@ -1,13 +1,11 @@
 -- h and l do not extend, the letters of the other symbols do.
-use mathlib.Core.Path.{sym}
-use borrow.Author.Rules.{rules}
+use Rattle.std.proofs.Common.{sym, rules}
 use Rattle.vcd.proofs.ExtendedLaws.{h-and-l-do-not, others-extend}
 use Rattle.vcd_decode.proofs.extends_left.Goals as goal
+use Rattle.vcd_decode.proofs.extends_left.Goals.{in-104, in_default}
 
-pub returns-in-104 : goal.returns-in-104
-returns-in-104 c = sym (h-and-l-do-not _ (rw c.small_letter.ensures at c.in-104.is))
-
-pub returns-in_default : goal.returns-in_default
-returns-in_default c =
-    let a = c.args in
-    sym (others-extend a.letter (search rules) c.requires (rw c.small_letter.ensures at c.in_default.in_default-own.rest.1))
+pub returns : goal.returns
+returns c = elim c.match-matches.branch [
+  | in-104 w ↦ rw w.matches-is (sym (h-and-l-do-not _ (rw c.small_letter.ensures at w.in-104.is)))
+  | in_default w ↦ rw w.matches-is (sym (others-extend _ (search rules) c.requires (λ e. let n = w.in_default in search rules)))
+]

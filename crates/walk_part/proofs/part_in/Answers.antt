@@ -1,66 +1,44 @@
--- `walk_part::part_in` meets its contract: a kept 0 says that there is no part; else it stands from its class byte to where the next
--- part begins.
--- Assumes nothing.
-use Prim.Native.Nat.{ℕ, ◌+◌, ◌-◌, ◌<◌}
+-- A kept 0 says that there is no part; else it stands from its class byte to where the next part begins.
+use Prim.Native.Nat.{◌+◌, ◌-◌}
 use native.Mathlib.Omega.{arith}
-use lib.ListN.{length, get_or}
-use Rattle.walk.specs.Walk.{image_in, BlockHere, PartHere}
+use lib.ListN.{get_or}
+use Rattle.walk.specs.Walk.{PartHere}
+use Rattle.walk.proofs.OpenBlock.{standing}
 use Rattle.walk_part.proofs.PartLaws.{start-most, found_at, found-zero, found-past}
 use Rattle.walk_part.proofs.part_in.Goals as goal
-use Rattle.walk_part.proofs.part_in.Goals.{Else-signal_count-signal, After-part_end-to}
+use Rattle.walk_part.proofs.part_in.Goals.{After-part_end-to}
 
-below : (c : goal.Else-signal_count-signal) → c.args.signal < length (image_in c.args.image.now).kinds
-below c = omega (arith, c.if-signal_count-signal.false, c.signal_count.ensures)
-
-found : (c : goal.After-part_end-to) (n : ℕ)
-    → BlockHere n c.args.at
-    c.args.image.now
-    → PartHere (c.data_place.result + c.offset_at-offset.result.0 - 1 + 1) c.part_end-to.result
-    (get_or c.args.image.now
-    (c.data_place.result + c.offset_at-offset.result.0 - 1) 0)
-    n c.args.signal c.args.image.now
-found c n h =
-    let s = c in
+found : (c : goal.After-part_end-to) → let b = c.args.block in
+    PartHere (c.data_place.result + c.offset_at-offset.result.0 - 1 + 1) c.part_end-to.result
+    (get_or b.image.bytes.now (c.data_place.result + c.offset_at-offset.result.0 - 1) 0)
+    b.number c.args.signal b.image.bytes.now
+found c =
+    let b = c.args.block in
     let o = c.offset_at-offset in
-    let d = c.data_place in
-    found_at n s.args.at s.args.signal o.result.0 d.result c.part_end-to.result s.args.image.now
-    (λ j. (c.shared_slice_known-1.given j).fits) s.requires.0 h
-    ((omega (arith, c.if-signal_count-signal.false, c.signal_count.ensures))) (d.ensures n h) (o.ensures n h) c.if-offset-eq0.false (c.part_end-to.ensures n h)
+    found_at b.number b.at c.args.signal o.result.0 c.data_place.result c.part_end-to.result b.image.bytes.now b.image.fits b.image.opened (standing b)
+    (omega (arith, c.if-signal_count-signal.false, c.signal_count.ensures)) c.data_place.ensures o.ensures c.if-offset-eq0.false c.part_end-to.ensures
 
 pub returns-then-signal_count-signal : goal.returns-then-signal_count-signal
-returns-then-signal_count-signal c n h =
-    let s = c in
-    found-past n s.args.signal s.args.image.now (λ j. (c.shared_slice_known-1.given j).fits) s.requires.0 (omega (arith, c.signal_count.ensures))
-
-pub offset_at-offset-requires : goal.offset_at-offset-requires
-offset_at-offset-requires c = let s = c in (s.requires.0, (s.requires.1, below c))
+returns-then-signal_count-signal c =
+    let b = c.args.block in
+    found-past b.number c.args.signal b.image.bytes.now b.image.fits b.image.opened (omega (arith, c.signal_count.ensures))
 
 pub returns-then-offset-eq0 : goal.returns-then-offset-eq0
-returns-then-offset-eq0 c n h =
-    let s = c in
+returns-then-offset-eq0 c =
+    let b = c.args.block in
     let o = c.offset_at-offset in
-    found-zero n s.args.signal o.result.0 s.args.image.now (below (goal.at.returns-then-offset-eq0 c).Else-signal_count-signal) (o.ensures n h) c.if-offset-eq0.true
+    found-zero b.number c.args.signal o.result.0 b.image.bytes.now (omega (arith, c.if-signal_count-signal.false, c.signal_count.ensures)) o.ensures c.if-offset-eq0.true
 
 pub overflow_add-class_at : goal.overflow_add-class_at
 overflow_add-class_at c =
-    let s = c in
-    let p = s.requires.1 in
-    omega (
-      arith,
-      start-most p.0 s.args.at s.args.image.now (λ j. (c.shared_slice_known-1.given j).fits) s.requires.0 p.1,
-      c.data_place.ensures p.0 p.1,
-    )
-
-pub part_end-to-requires : goal.part_end-to-requires
-part_end-to-requires c = let s = c in (s.requires.0, (s.requires.1, below (goal.at.part_end-to-requires c).Else-signal_count-signal))
+    let b = c.args.block in
+    omega (arith, start-most b.number b.at b.image.bytes.now b.image.fits b.image.opened (standing b), c.data_place.ensures)
 
 pub overflow_add-result : goal.overflow_add-result
-overflow_add-result c = let p = c.requires.1 in let w = found c p.0 p.1 in omega (arith, w.ordered, w.inside)
+overflow_add-result c = let w = found c in omega (arith, w.ordered, w.inside)
 
-pub bounds-image-class_at : goal.bounds-image-class_at
-bounds-image-class_at c =
-    let p = c.requires.1 in let w = found (goal.at.bounds-image-class_at c).After-part_end-to p.0 p.1 in
-    omega (arith, w.ordered, w.inside)
+pub bounds-block-class_at : goal.bounds-block-class_at
+bounds-block-class_at c = let w = found (goal.at.bounds-block-class_at c).After-part_end-to in omega (arith, w.ordered, w.inside)
 
 pub returns : goal.returns
-returns c n h = found (goal.at.returns c).After-part_end-to n h
+returns c = found (goal.at.returns c).After-part_end-to

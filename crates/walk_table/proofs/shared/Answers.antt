@@ -1,29 +1,18 @@
--- `walk_table::shared` meets its contract: a block has a time.
--- Assumes nothing.
-use Rattle.loaded.specs.Opener.{block_at}
-use Rattle.walk.specs.Walk.{image_in}
-use Rattle.walk.proofs.BlockLaws.{any-time}
-use Rattle.walk_table.proofs.TableLaws.{shared-first, shared-end, shared-not}
+-- A block has a time.
+use mathlib.Core.Path.{sym, ap, ◌∙◌}
+use Rattle.std.specs.Prelude.{Option}
+use Prim.Native.Nat.{ℕ}
+use Rattle.walk.specs.Walk.{end_held, shared_times}
+use Rattle.walk.specs.Open.{block_of}
+use Rattle.walk.proofs.OpenBlock.{fits_of}
+use Rattle.walk_table.proofs.TableLaws.{shared_end}
 use Rattle.walk_table.proofs.shared.Goals as goal
 
-pub returns-then-not-later : goal.returns-then-not-later
-returns-then-not-later c n h = let a = c.args in shared-first a.later a.end (block_at (image_in a.image.now) n).times (c.if-not-later.true)
+pub time-requires : goal.time-requires
+time-requires c = (fits_of c.args.block).any
 
-pub time_at-requires : goal.time_at-requires
-time_at-requires c =
-    let s = c in
-    (s.requires.0, (s.requires.1.0, s.requires.1.1, any-time s.requires.1.0 s.args.image.now (λ j. (c.shared_slice_known-1.given j).fits) s.requires.0 s.requires.1.1.exists))
-
-pub returns-then-time_at-end : goal.returns-then-time_at-end
-returns-then-time_at-end c n h =
-    let s = c in
-    let a = s.args in
-    shared-end a.later a.end c.time_at.result (block_at (image_in a.image.now) n).times (c.if-not-later.false)
-    (any-time n a.image.now (λ j. (c.shared_slice_known-1.given j).fits) s.requires.0 h.exists) (c.time_at.ensures n h) c.if-time_at-end.true
-
-pub returns : goal.returns
-returns c n h =
-    let s = c in
-    let a = s.args in
-    shared-not a.later a.end c.time_at.result (block_at (image_in a.image.now) n).times (c.if-not-later.false)
-    (any-time n a.image.now (λ j. (c.shared_slice_known-1.given j).fits) s.requires.0 h.exists) (c.time_at.ensures n h) c.if-time_at-end.false
+pub returns-in-Some : goal.returns-in-Some
+returns-in-Some c =
+    let ts = (block_of c.args.block).times in
+    c.from.ensures ∙ shared_end c.time.result c.in-Some.end ts (fits_of c.args.block).any c.time.ensures
+    ∙ ap (λ (e : Option ℕ). shared_times (end_held e) ts) (sym c.in-Some.is)

@@ -11,8 +11,8 @@ short c =
     let a = c.args in
     rw c.change_len-n.ensures (change-short c.width-width.result _ a.change c.if-width-gt-MAX_WIDTH.false)
 
-pub returns-then-last-index : goal.returns-then-last-index
-returns-then-last-index c = (start-beyond _ _ _ _ c.if-last-index.true, refl)
+pub returns-then-last-kept : goal.returns-then-last-kept
+returns-then-last-kept c = (start-beyond _ _ _ _ c.if-last-kept.true, refl)
 
 pub returns-then-width-gt-MAX_WIDTH : goal.returns-then-width-gt-MAX_WIDTH
 returns-then-width-gt-MAX_WIDTH c = (start-wide _ _ _ _ c.width-width.ensures (omega arith) c.if-width-gt-MAX_WIDTH.true, refl)

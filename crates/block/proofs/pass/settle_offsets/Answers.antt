@@ -1,4 +1,4 @@
--- The loop's invariant: to settle the signals that are left gives what to settle all of them gives. The measure is what is left of them.
+-- The loop's invariant: to settle the signals that are left gives what to settle all of them gives.
 -- Assumes nothing.
 use Prim.Native.Nat.{◌-◌, ◌<◌}
 use mathlib.Core.Path.{◌≡◌, refl, ◌∙◌}
@@ -8,12 +8,12 @@ use Rattle.block.proofs.PassLaws.{settle-none, settle-turn, settles-here, settle
 use Rattle.block.proofs.pass.settle_offsets.Goals as goal
 
 pub loop-g-init : goal.loop-g-init
-loop-g-init c = (omega arith, refl, rw sub-zero c.requires.1, simp sub-zero)
+loop-g-init c = (refl, rw sub-zero c.requires.1, simp sub-zero)
 
 pub settle_offset-o-requires : goal.settle_offset-o-requires
 settle_offset-o-requires c =
     let l = c.loop-g in
-    (omega arith, settles-here l.o l.g _ l.tail (omega arith) l.invariant.2)
+    (omega arith, settles-here l.o l.g _ l.tail (omega arith) l.invariant.1)
 
 pub loop-g-preserved : goal.loop-g-preserved
 loop-g-preserved c =
@@ -21,14 +21,13 @@ loop-g-preserved c =
     let l = c.loop-g in
     let n = c.args.signals in
     let h : l.g < n = omega arith in (
-      omega arith,
-      d.auto.tail ∙ l.invariant.1,
-      settles-turn l.o l.g n l.tail _ _ h d.ensures.0 d.ensures.1 l.invariant.2,
-      settle-turn l.o l.g n l.tail _ _ h d.ensures.0 d.ensures.1 ∙ l.invariant.3,
+      d.auto.tail ∙ l.invariant.0,
+      settles-turn l.o l.g n l.tail _ _ h d.ensures.0 d.ensures.1 l.invariant.1,
+      settle-turn l.o l.g n l.tail _ _ h d.ensures.0 d.ensures.1 ∙ l.invariant.2,
     )
 
 pub returns : goal.returns
 returns c =
     let l = c.loop-g in
     let z : c.args.signals - l.g ≡ 0 = omega arith in
-    rw (← l.invariant.3, z, settle-none) refl
+    rw (← l.invariant.2, z, settle-none) refl

@@ -1,6 +1,5 @@
 -- The invariant: the lines of the signals from number g on, put from p on, give what all of them give.
 -- Assumes nothing.
-use Prim.Native.Nat.{◌-◌, ◌≤◌}
 use mathlib.Core.Path.{◌≡◌}
 use lib.ListN.{length, drop}
 use Rattle.ascii.proofs.PutLaws.{Left}
@@ -10,8 +9,5 @@ use Rattle.cursor_text.proofs.signals.put_signals.Given as goal
 
 abbrev pub invariant-loop-g : goal.invariant-loop-g
 invariant-loop-g l =
-    (l.g ≤ length (image_in l.image).kinds) × (length l.symbols ≡ length l.initial.symbols)
+    (length l.symbols ≡ length l.initial.symbols)
     × Left (at_lines (image_in l.image) l.t l.g (drop l.g (image_in l.image).kinds)) l.p l.out (at_lines (image_in l.image) l.t 0 (image_in l.image).kinds) 0 l.initial.out
-
-abbrev pub decreases-loop-g : goal.decreases-loop-g
-decreases-loop-g l = length (image_in l.image).kinds - l.g

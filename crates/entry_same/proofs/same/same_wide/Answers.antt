@@ -8,27 +8,27 @@ pub returns-then-number : goal.returns-then-number
 returns-then-number c =
     let p = c in
     let a = p.args in
-    wide-differs a.width (class_number a.top) (class_number a.states) a.end a.next a.kept.now a.stream.now p.requires.0 p.requires.1
+    wide-differs a.width (class_number a.top) (class_number a.states) a.end a.next a.image.now a.image.now p.requires.0 p.requires.1
     (λ e. c.if-number.true (c.number.ensures ∙ e ∙ sym c.number-2.ensures))
 
 pub overflow_sub-end : goal.overflow_sub-end
 overflow_sub-end c =
     let p = c in
     let a = p.args in
-    (both-inside a.width (class_number a.top) (class_number a.states) a.end a.next a.kept.now a.stream.now p.requires.0 p.requires.1 c.bytes_required-size.result
+    (both-inside a.width (class_number a.top) (class_number a.states) a.end a.next a.image.now a.image.now p.requires.0 p.requires.1 c.bytes_required-size.result
     (sym c.number.ensures ∙ c.if-number.false ∙ c.number-2.ensures) c.bytes_required-size.ensures).1
 
 pub same_part-requires : goal.same_part-requires
 same_part-requires c =
     let p = c in
     let a = p.args in
-    (both-inside a.width (class_number a.top) (class_number a.states) a.end a.next a.kept.now a.stream.now p.requires.0 p.requires.1 c.bytes_required-size.result
+    (both-inside a.width (class_number a.top) (class_number a.states) a.end a.next a.image.now a.image.now p.requires.0 p.requires.1 c.bytes_required-size.result
     (sym c.number.ensures ∙ c.if-number.false ∙ c.number-2.ensures) c.bytes_required-size.ensures).0
 
 pub returns : goal.returns
 returns c =
     let p = c in
     let a = p.args in
-    parts_same a.width (class_number a.top) (class_number a.states) a.end a.next a.kept.now a.stream.now p.requires.0 p.requires.1 _ _
+    parts_same a.width (class_number a.top) (class_number a.states) a.end a.next a.image.now a.image.now p.requires.0 p.requires.1 _ _
     (sym c.number.ensures ∙ c.if-number.false ∙ c.number-2.ensures) c.bytes_required-size.ensures
     c.same_part.ensures

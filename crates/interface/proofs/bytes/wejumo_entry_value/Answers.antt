@@ -12,8 +12,8 @@ use Rattle.interface.proofs.bytes.wejumo_entry_value.Goals as goal
 pub returns : goal.returns
 returns c =
     let a = c.args in
-    entry-told _ _ _ _ c.entry_numbers.ensures
+    entry-told _ _ _ _ c.from.ensures
     (c.entry_value.ensures
-    ∙ ap (λ (k : SignalEncoding). entry_value_of k (class_number c.from_class.result) a.bytes.now a.out.now)
+    ∙ ap (λ (k : SignalEncoding). entry_value_of k (class_number c.from_number.result) a.bytes.now a.out.now)
     c.kind_from.ensures
-    ∙ ap (λ (s : States). entry_value_of (kind_from a.kind) (class_number s) a.bytes.now a.out.now) c.from_class.ensures)
+    ∙ ap (λ (s : States). entry_value_of (kind_from a.kind) (class_number s) a.bytes.now a.out.now) c.from_number.ensures)

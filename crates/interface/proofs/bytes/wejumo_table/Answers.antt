@@ -4,4 +4,4 @@ use Rattle.interface_answers.proofs.AnswerLaws.{table-told}
 use Rattle.interface.proofs.bytes.wejumo_table.Goals as goal
 
 pub returns : goal.returns
-returns c = table-told _ _ _ _ c.table_numbers.ensures c.table.ensures
+returns c = table-told _ _ _ _ c.from.ensures c.table.ensures

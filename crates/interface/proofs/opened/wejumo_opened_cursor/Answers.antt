@@ -8,6 +8,6 @@ use Rattle.interface.proofs.opened.wejumo_opened_cursor.Goals as goal
 pub returns : goal.returns
 returns c =
     let a = c.args in
-    cursor_told_lem _ _ _ _ c.cursor_numbers.ensures
+    cursor_told_lem _ _ _ _ c.from.ensures
     (c.cursor_in.ensures
     ∙ sym (cursor-opened a.image.now a.signal a.time a.out.now c.requires))

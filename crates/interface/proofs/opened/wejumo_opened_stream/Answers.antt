@@ -1,29 +1,20 @@
 -- Past the blocks there is no part.
 -- Assumes nothing.
 use Rattle.std.proofs.Common.{◌≤◌, length, sym, ◌∙◌, arith}
-use Rattle.walk.specs.Walk.{image_in, BlockHere, PartHere}
+use Rattle.walk.specs.Walk.{image_in, PartHere}
 use Rattle.walk_part.proofs.PartLaws.{stream-of, stream-past, stream-place-past}
 use Rattle.interface.proofs.opened.wejumo_opened_stream.Goals as goal
-use Rattle.interface.proofs.opened.wejumo_opened_stream.Goals.{Then-block_count-block, After-block_start, After-part_in}
-
--- the block begins at the place
-abbrev standing : (c : goal.After-block_start) → BlockHere c.args.block c.block_start.result c.args.image.now
-standing c = record { exists = omega (arith, c.if-block_count-block.false, c.block_count.ensures); place = c.block_start.ensures }
+use Rattle.interface.proofs.opened.wejumo_opened_stream.Goals.{Then-block_count-block, After-part_in}
 
 found : (c : goal.After-part_in) → PartHere c.part_in.result.from c.part_in.result.to c.part_in.result.top
     c.args.block c.args.signal c.args.image.now
-found c = c.part_in.ensures c.args.block
-    ((let it : BlockHere c.args.block c.block_start.result c.args.image.now =
-    record { exists = omega (arith, c.if-block_count-block.false, c.block_count.ensures); place = c.block_start.ensures } in it))
+found c = rw (c.block.ensures.0, c.block.ensures.1) at c.part_in.ensures
 
 past : (c : goal.Then-block_count-block) → length (image_in c.args.image.now).blocks ≤ c.args.block
 past c = omega (arith, c.if-block_count-block.true, c.block_count.ensures)
 
 pub returns-then-block_count-block : goal.returns-then-block_count-block
 returns-then-block_count-block c = let a = c.args in (stream-past a.image.now a.block a.signal (past c), omega arith, stream-place-past a.image.now a.block a.signal (past c))
-
-pub part_in-requires : goal.part_in-requires
-part_in-requires c = (c.requires, (c.args.block, standing c))
 
 pub part_numbers-requires : goal.part_numbers-requires
 part_numbers-requires c = (found c).ordered

@@ -8,5 +8,5 @@ use Rattle.interface.proofs.opened.wejumo_opened_table.Goals as goal
 pub returns : goal.returns
 returns c =
     let a = c.args in
-    table-told _ _ _ _ c.table_numbers.ensures
+    table-told _ _ _ _ c.from.ensures
     (c.table_in.ensures ∙ sym (table-opened a.image.now a.out.now c.requires))

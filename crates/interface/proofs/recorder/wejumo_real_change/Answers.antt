@@ -13,5 +13,5 @@ returns c =
     let a = c.args in
     told-made a.state
     (λ (s : Encoder). change_of (memory s (records_of a.records.now) a.times.now a.work.now a.image.now) a.sender a.signal (real a.bits)) _ _ _ _ _ _ _ _
-    c.state_from.ensures c.real_change-done.ensures
+    c.from.ensures c.real_change-done.ensures
     c.outcome_numbers.ensures

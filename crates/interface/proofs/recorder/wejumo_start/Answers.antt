@@ -13,5 +13,5 @@ pub returns : goal.returns
 returns c =
     let a = c.args in
     told-made a.state (λ (s : Encoder). start_of (settings_of a.limit a.signals a.edition) (memory s (records_of a.records.now) a.times.now [] a.image.now)) _ _ _ _ _ _ _ _
-    c.state_from.ensures c.start-done.ensures
+    c.from.ensures c.start-done.ensures
     c.outcome_numbers.ensures

@@ -11,5 +11,5 @@ pub returns : goal.returns
 returns c =
     let a = c.args in
     told-made a.state (λ (s : Encoder). time_of (memory s (records_of a.records.now) a.times.now a.work.now a.image.now) a.sender a.time) _ _ _ _ _ _ _ _
-    c.state_from.ensures
+    c.from.ensures
     c.time_change-done.ensures c.outcome_numbers.ensures

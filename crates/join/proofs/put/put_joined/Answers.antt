@@ -8,27 +8,25 @@ use lib.ListN.{length, take, drop}
 use lib.Seq.{sets}
 use Rattle.numbers.specs.LittleEndian.{le}
 use Rattle.walk.specs.Walk.{image_in}
+use Rattle.walk.specs.Open.{image_of}
 use Rattle.walk.proofs.BlockLaws.{first-place}
 use Rattle.join.proofs.BytesLaws.{Sizes, sizes-of, joined_bytes, three-sets}
 use Rattle.join.proofs.put.put_joined.Goals as goal
 use Rattle.join.proofs.put.put_joined.Goals.{After-block_count-2, After-first_block-head}
 
-abbrev sized : (c : goal.After-block_count-2) → let a = c.args in Sizes a.first.now a.second.now
+abbrev sized : (c : goal.After-block_count-2) → let a = c.args in Sizes a.first.bytes.now a.second.bytes.now
 sized c =
-    let s = c in
-    sizes-of s.args.first.now s.args.second.now (λ j. (c.shared_slice_known-1.given j).fits)
-    (λ j. (c.shared_slice_known-2-1.given j).fits) s.requires.opened.0 s.requires.opened.1 s.requires.opened.2
+    let a = c.args in
+    sizes-of a.first.bytes.now a.second.bytes.now a.first.fits a.second.fits a.first.opened a.second.opened c.requires.alike
 
 -- the second's head is inside it
-past : (c : goal.After-first_block-head) → let a = c.args in c.first_block-head.result ≤ length a.second.now
+past : (c : goal.After-first_block-head) → let a = c.args in c.first_block-head.result ≤ length a.second.bytes.now
 past c =
-    let s = c in
+    let a = c.args in
     omega (
       arith,
-      ((let it : let a = c.args in Sizes a.first.now a.second.now = let s = c in
-          sizes-of s.args.first.now s.args.second.now (λ j. (c.shared_slice_known-1.given j).fits)
-          (λ j. (c.shared_slice_known-2-1.given j).fits) s.requires.opened.0 s.requires.opened.1 s.requires.opened.2 in it)).past,
-      c.first_block-head.ensures ∙ first-place (image_in s.args.second.now),
+      (sizes-of a.first.bytes.now a.second.bytes.now a.first.fits a.second.fits a.first.opened a.second.opened c.requires.alike).past,
+      c.first_block-head.ensures ∙ first-place (image_of a.second),
     )
 
 pub overflow_add-n : goal.overflow_add-n
@@ -62,7 +60,7 @@ put_part-requires c =
     let e = c.put_numbers-p in
     let f = c.put_part-q in
     let p = past (goal.at.put_part-requires c).After-first_block-head in
-    let h = b.first_block-head.ensures ∙ first-place (image_in s.args.second.now) in
+    let h = b.first_block-head.ensures ∙ first-place (image_of s.args.second) in
     (omega (arith, z.head, z.past, z.total, h, s.requires.total_value.0, s.requires.total_value.2, e.ensures.0, e.auto.out, f.ensures.0, f.auto.out), omega (arith, p))
 
 pub returns : goal.returns
@@ -74,8 +72,8 @@ returns c =
     let k = f in
     let z = sized (goal.at.returns c).After-block_count-2 in
     let s = k in
-    let a = s.args.first.now in
-    let b = s.args.second.now in
+    let a = s.args.first.bytes.now in
+    let b = s.args.second.bytes.now in
     let n = k.block_count.result + k.block_count-2.result in
     let h = f.first_block-head.result in
     let t = s.args.total in
@@ -85,5 +83,5 @@ returns c =
     (three-sets (take 8 a ++ (le 4 n ++ le 4 t)) (take (length a - 16) (drop 16 a)) (take (length b - h) (drop h b)) s.args.out.now 0 _ _ refl
     (omega (arith, e1.0, z.numbers n t)) (omega (arith, e2.0, z.rest))
     ∙ ap (sets s.args.out.now 0)
-    (sym (joined_bytes a b (λ j. (k.shared_slice_known-1.given j).fits) (λ j. (k.shared_slice_known-2-1.given j).fits)
-    s.requires.opened.0 s.requires.opened.1 s.requires.opened.2 n h t sums (f.first_block-head.ensures ∙ first-place (image_in b)) s.requires.total_value.0)))
+    (sym (joined_bytes a b s.args.first.fits s.args.second.fits s.args.first.opened s.args.second.opened s.requires.alike n h t sums (f.first_block-head.ensures ∙ first-place (image_in
+    b)) s.requires.total_value.0)))

@@ -1,5 +1,5 @@
 -- The invariant: the lines of the entries from number i on, whose bytes begin at `from`, put from p on, give what all of them give.
-use Prim.Native.Nat.{◌-◌, ◌≤◌}
+use Prim.Native.Nat.{◌≤◌}
 use mathlib.Core.Path.{◌≡◌}
 use mathlib.Core.Bool.{true}
 use lib.ListN.{length, drop}
@@ -9,11 +9,8 @@ use Rattle.listing_text.specs.Listing.{entry_lines}
 use Rattle.listing_text.specs.Written.{entries_read, entries_there}
 use Rattle.listing_text.proofs.entries.put_entries.Given as goal
 
-abbrev pub invariant-loop-i : goal.invariant-loop-i
-invariant-loop-i l =
-    (l.i ≤ length l.index) × (l.from ≤ length l.bytes) × (length l.symbols ≡ length l.initial.symbols) × (entries_there l.kind (class_number l.class) (drop l.i l.index) (drop l.from l.bytes) ≡ true)
-    × Left (entry_lines (entries_read l.kind (class_number l.class) (drop l.i l.index) (drop l.from l.bytes))) l.p l.out
+abbrev pub invariant-loop-number : goal.invariant-loop-number
+invariant-loop-number l =
+    (l.from ≤ length l.bytes) × (length l.symbols ≡ length l.initial.symbols) × (entries_there l.kind (class_number l.class) (drop l.number-index l.index) (drop l.from l.bytes) ≡ true)
+    × Left (entry_lines (entries_read l.kind (class_number l.class) (drop l.number-index l.index) (drop l.from l.bytes))) l.p l.out
     (entry_lines (entries_read l.kind (class_number l.class) l.index l.bytes)) l.at l.initial.out
-
-abbrev pub decreases-loop-i : goal.decreases-loop-i
-decreases-loop-i l = length l.index - l.i

@@ -2,7 +2,10 @@
 use mathlib.Core.Path.{◌≡◌, sym, ap, ◌∙◌}
 use native.Mathlib.Omega.{arith}
 use Rattle.value.specs.Class.{class_number}
-use Rattle.loaded.specs.declared.LoadAnswer.{LoadAnswer}
+use Rattle.std.specs.Prelude.{Result}
+use Rattle.refusal.specs.declared.Refusal.{Refusal}
+use Rattle.refusal.specs.Refusal.{refusal_number}
+use Rattle.loaded.specs.declared.Loaded.{Loaded}
 use Rattle.loaded.specs.Opener.{kind_at}
 use Rattle.loaded.specs.Loading.{loads}
 use Rattle.loaded.specs.Reader.{load_reply, load_after}
@@ -11,47 +14,47 @@ use Rattle.ascii.proofs.PutLaws.{puts-append, puts-as, room_as, room-first, room
 use Rattle.listing_text.specs.Listing.{signal_line, signal_lines}
 use Rattle.listing_text.proofs.SignalLaws.{SignalRead, signal-read, signal-absent}
 use Rattle.listing_text.proofs.signals.put_signal.Goals as goal
-use Rattle.listing_text.proofs.signals.put_signal.Goals.{After-number, In-Refused, In-Refused}
+use Rattle.listing_text.proofs.signals.put_signal.Goals.{After-number, In-Err}
 
 -- a loaded signal
 loaded-read : (t : goal.After-number) →
     let s = t in
     let v = t.load_in in
     SignalRead s.args.image.now s.args.signal t.kind_at-kind.result
-    (class_number t.in-Loaded.class) t.number.result t.in-Loaded.count v.new.index v.new.bytes
+    (class_number t.in-Ok.loaded.class) t.number.result t.in-Ok.loaded.count v.new.index v.new.bytes
 loaded-read t =
     let s = t in
     let v = t.load_in in
     signal-read s.args.image.now s.args.signal t.kind_at-kind.result
-    (class_number t.in-Loaded.class) t.number.result t.in-Loaded.count v.new.index v.new.bytes s.args.index.now s.args.bytes.now s.args.symbols.now
+    (class_number t.in-Ok.loaded.class) t.number.result t.in-Ok.loaded.count v.new.index v.new.bytes s.args.index.now s.args.bytes.now s.args.symbols.now
     (λ j. (t.shared_slice_known-1.given j).fits)
     s.requires.0 s.requires.2 t.kind_at-kind.ensures t.number.ensures
-    (ap (λ (a : LoadAnswer). load_after (load_reply a) v.new.index v.new.bytes) (sym t.in-Loaded.is) ∙ v.ensures)
+    (ap (λ (a : Result Loaded Refusal). load_after (load_reply a) v.new.index v.new.bytes) (sym t.in-Ok.is) ∙ v.ensures)
 
 -- a signal that loading refuses
-refused-absent : (t : goal.In-Refused) →
+refused-absent : (t : goal.In-Err) →
     let s = t in
     signal_lines s.args.signal (kind_at (image_in s.args.image.now) s.args.signal) (loads s.args.signal (image_in s.args.image.now).blocks) ≡ signal_line
     s.args.signal t.kind_at-kind.result 0 0
 refused-absent t =
     let s = t in
     let v = t.load_in in
-    signal-absent s.args.image.now s.args.signal t.kind_at-kind.result t.in-Refused.field-0 v.new.index
+    signal-absent s.args.image.now s.args.signal t.kind_at-kind.result (refusal_number t.in-Err.field-0) v.new.index
     v.new.bytes s.args.index.now s.args.bytes.now s.args.symbols.now
     (λ j. (t.shared_slice_known-1.given j).fits) s.requires.0
     s.requires.1 s.requires.2 t.kind_at-kind.ensures
-    (ap (λ (a : LoadAnswer). load_after (load_reply a) v.new.index v.new.bytes) (sym t.in-Refused.is) ∙ v.ensures)
+    (ap (λ (a : Result Loaded Refusal). load_after (load_reply a) v.new.index v.new.bytes) (sym t.in-Err.is) ∙ v.ensures)
 
 pub put_signal_line-p-requires : goal.put_signal_line-p-requires
 put_signal_line-p-requires c =
-    room-first _ (room_as (loaded-read c).lines
+    room-first _ (room_as (loaded-read (goal.at.put_signal_line-p-requires c).After-number).lines
     c.requires.3)
 
 pub slice_bounds-put_entries-end : goal.slice_bounds-put_entries-end
 slice_bounds-put_entries-end c = (loaded-read (goal.at.slice_bounds-put_entries-end c).After-number).inside
 
-pub slice_bounds-put_entries-end-in-Loaded : goal.slice_bounds-put_entries-end-in-Loaded
-slice_bounds-put_entries-end-in-Loaded c = (loaded-read (goal.at.slice_bounds-put_entries-end-in-Loaded c).After-number).size
+pub slice_bounds-put_entries-end-in-Ok : goal.slice_bounds-put_entries-end-in-Ok
+slice_bounds-put_entries-end-in-Ok c = (loaded-read (goal.at.slice_bounds-put_entries-end-in-Ok c).After-number).size
 
 pub put_entries-requires : goal.put_entries-requires
 put_entries-requires c =
@@ -61,13 +64,13 @@ put_entries-requires c =
 
 pub put_signal_line-requires : goal.put_signal_line-requires
 put_signal_line-requires c =
-    room_as (refused-absent (goal.at.put_signal_line-requires c).In-Refused) c.requires.3
+    room_as (refused-absent (goal.at.put_signal_line-requires c).In-Err) c.requires.3
 
-pub returns-in-Loaded : goal.returns-in-Loaded
-returns-in-Loaded c =
-    puts-as (sym (loaded-read (goal.at.returns-in-Loaded c).After-number).lines)
+pub returns-in-Ok : goal.returns-in-Ok
+returns-in-Ok c =
+    puts-as (sym (loaded-read (goal.at.returns-in-Ok c).After-number).lines)
     (puts-append c.put_signal_line-p.ensures
     c.put_entries.ensures)
 
-pub returns-in-Refused : goal.returns-in-Refused
-returns-in-Refused c = puts-as (sym (refused-absent (goal.at.returns-in-Refused c).In-Refused)) c.put_signal_line.ensures
+pub returns-in-Err : goal.returns-in-Err
+returns-in-Err c = puts-as (sym (refused-absent (goal.at.returns-in-Err c).In-Err)) c.put_signal_line.ensures

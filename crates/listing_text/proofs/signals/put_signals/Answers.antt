@@ -9,27 +9,18 @@ use Rattle.walk.specs.Walk.{image_in}
 use Rattle.listing_text.proofs.LineLaws.{signals-more, signals-none}
 use Rattle.listing_text.proofs.signals.put_signals.Goals as goal
 
-pub signal_count-signals-requires : goal.signal_count-signals-requires
-signal_count-signals-requires c = c.requires.0.0
-
 pub loop-g-init : goal.loop-g-init
-loop-g-init c = (omega arith, refl, refl, refl, left-all)
+loop-g-init c = (refl, refl, refl, left-all)
 
 pub put_signal-p-requires : goal.put_signal-p-requires
 put_signal-p-requires c =
     let l = c.loop-g in let s = c in
-    let x = image_in s.args.image.now in let m = signals-more x l.g (omega (arith, c.signal_count-signals.ensures)) in (
+    let x = image_in s.args.image.now in let m = signals-more x l.g (omega (arith, c.signal_count-g-end.ensures)) in (
       s.requires.0,
-      omega (arith, c.signal_count-signals.ensures),
-      (omega (arith, l.invariant.1, s.requires.1.0), omega (arith, l.invariant.2, s.requires.1.1), omega (arith, l.invariant.3, s.requires.1.2)),
-      left-room _ (left_as m l.invariant.4) s.requires.2,
+      omega (arith, c.signal_count-g-end.ensures),
+      (omega (arith, l.invariant.0, s.requires.1.0), omega (arith, l.invariant.1, s.requires.1.1), omega (arith, l.invariant.2, s.requires.1.2)),
+      left-room _ (left_as m l.invariant.3) s.requires.2,
     )
-
-pub overflow_add-g : goal.overflow_add-g
-overflow_add-g c = omega (arith, c.signal_count-signals.ensures)
-
-pub loop-g-smaller : goal.loop-g-smaller
-loop-g-smaller c = omega (arith, c.signal_count-signals.ensures)
 
 pub loop-g-preserved : goal.loop-g-preserved
 loop-g-preserved c =
@@ -37,21 +28,18 @@ loop-g-preserved c =
     let s = c in
     let x = image_in s.args.image.now in
     let m = signals-more x l.g
-    (omega (arith, c.signal_count-signals.ensures)) in
+    (omega (arith, c.signal_count-g-end.ensures)) in
     let ki : length c.put_signal-p.new.index ≡ length l.index = search rules in
     let kb : length c.put_signal-p.new.bytes ≡ length l.bytes = search rules in
     let ks : length c.put_signal-p.new.symbols ≡ length l.symbols = search rules in (
-      omega (arith, c.signal_count-signals.ensures),
-      ki
-          ∙ l.invariant.1,
-      kb ∙ l.invariant.2,
-      ks
-          ∙ l.invariant.3,
-      rw (add-one l.g) (left_step (left_as m l.invariant.4) c.put_signal-p.ensures),
+      ki ∙ l.invariant.0,
+      kb ∙ l.invariant.1,
+      ks ∙ l.invariant.2,
+      rw (add-one l.g) (left_step (left_as m l.invariant.3) c.put_signal-p.ensures),
     )
 
 pub returns : goal.returns
 returns c =
     let l = c.loop-g in
     left_end (left_as (signals-none (image_in c.args.image.now) l.g
-    (omega (arith, c.signal_count-signals.ensures))) l.invariant.4)
+    (omega (arith, c.signal_count-g-end.ensures))) l.invariant.3)

@@ -1,5 +1,4 @@
 -- The invariant: the lines of the signals from number g on, put from p on, give what all of them give.
-use Prim.Native.Nat.{◌-◌, ◌≤◌}
 use mathlib.Core.Path.{◌≡◌}
 use lib.ListN.{length, drop}
 use Rattle.ascii.proofs.PutLaws.{Left}
@@ -9,8 +8,5 @@ use Rattle.listing_text.proofs.signals.put_signals.Given as goal
 
 abbrev pub invariant-loop-g : goal.invariant-loop-g
 invariant-loop-g l =
-    (l.g ≤ length (image_in l.image).kinds) × (length l.index ≡ length l.initial.index) × (length l.bytes ≡ length l.initial.bytes) × (length l.symbols ≡ length l.initial.symbols)
+    (length l.index ≡ length l.initial.index) × (length l.bytes ≡ length l.initial.bytes) × (length l.symbols ≡ length l.initial.symbols)
     × Left (signals_from (image_in l.image) l.g (drop l.g (image_in l.image).kinds)) l.p l.out (signals_from (image_in l.image) 0 (image_in l.image).kinds) l.at l.initial.out
-
-abbrev pub decreases-loop-g : goal.decreases-loop-g
-decreases-loop-g l = length (image_in l.image).kinds - l.g

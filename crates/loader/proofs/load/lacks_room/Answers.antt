@@ -9,19 +9,19 @@ use Rattle.value.proofs.ClassLaws.{number_small}
 use Rattle.signal.specs.Kind.{known_kind}
 use Rattle.loader.proofs.LoadLaws.{sized, known, size_small, room_most, counted-short}
 use Rattle.loader.proofs.load.lacks_room.Goals as goal
-use Rattle.loader.proofs.load.lacks_room.Goals.{After-slice_known-2-1}
+use Rattle.loader.proofs.load.lacks_room.Goals.{After-entry_len-size}
 
-kind-known : (c : goal.After-slice_known-2-1) → known_kind c.args.kind ≡ true
+kind-known : (c : goal.After-entry_len-size) → known_kind c.args.kind ≡ true
 kind-known c =
-    let p = c in
-    ap known_kind p.requires.opened.1 ∙ known p.args.image.now p.args.signal (λ j. (c.shared_slice_known-1.given j).fits) p.requires.opened.0
+    let i = c.args.image in
+    ap known_kind c.requires.known.0 ∙ known i.bytes.now c.args.signal i.fits i.opened
 
 pub overflow_mul-most : goal.overflow_mul-most
 overflow_mul-most c =
     let p = c in
     let a = p.args in
     let e = c.entry_len-size.ensures in
-    let m = size_small a.kind (class_number a.class) a.most (kind-known (goal.at.overflow_mul-most c).After-slice_known-2-1) (number_small a.class) p.requires.image_len_bound.1 in
+    let m = size_small a.kind (class_number a.class) a.most (kind-known (goal.at.overflow_mul-most c).After-entry_len-size) (number_small a.class) p.requires.image_len_bound.1 in
     rw e (omega arith)
 
 pub returns-then-not-too_short : goal.returns-then-not-too_short
@@ -29,9 +29,9 @@ returns-then-not-too_short c =
     let t = c in
     let p = t in
     let a = p.args in
-    let z = sized a.image.now a.signal (λ j. (t.shared_slice_known-1.given j).fits) p.requires.opened.0 in (
-      room_most a.image.now a.signal a.kind (class_number a.class) a.most t.entry_len-size.result (length a.index.now) (length a.bytes.now)
-          z p.requires.opened.1 p.requires.opened.2 t.entry_len-size.ensures p.requires.image_len_bound.0 (sym c.too_short.ensures ∙ c.if-not-too_short.true),
+    let z = sized a.image.bytes.now a.signal a.image.fits a.image.opened in (
+      room_most a.image.bytes.now a.signal a.kind (class_number a.class) a.most t.entry_len-size.result (length a.index.now) (length a.bytes.now)
+          z p.requires.known.0 p.requires.known.1 t.entry_len-size.ensures p.requires.image_len_bound.0 (sym c.too_short.ensures ∙ c.if-not-too_short.true),
       refl,
       refl,
     )
@@ -39,10 +39,10 @@ returns-then-not-too_short c =
 pub load_blocks-counted-requires : goal.load_blocks-counted-requires
 load_blocks-counted-requires c =
     let p = c in
-    (p.requires.opened.0, omega (arith, p.requires.opened.2), λ f. let o : ◌≡◌ {A = ℕ} 0 1 = cc in absurd (omega arith))
+    (omega (arith, p.requires.known.1), λ f. let o : ◌≡◌ {A = ℕ} 0 1 = cc in absurd (omega arith))
 
 pub returns : goal.returns
 returns c =
     let l = c in
     let a = l.args in
-    counted-short a.image.now a.signal (class_number a.class) a.index.now a.bytes.now l.load_blocks-counted.result _ _ _ l.load_blocks-counted.ensures c.too_short-2.ensures
+    counted-short a.image.bytes.now a.signal (class_number a.class) a.index.now a.bytes.now l.load_blocks-counted.result _ _ _ l.load_blocks-counted.ensures c.too_short-2.ensures

@@ -1,11 +1,7 @@
-use Prim.Native.Nat.{◌+◌, ◌-◌, ◌*◌, ◌≤◌}
-use mathlib.Core.Path.{◌≡◌}
+use Rattle.std.proofs.Common.{◌≡◌, ◌+◌, ◌-◌, ◌*◌}
 use Rattle.reading.specs.Decided.{uints}
 use Rattle.reading.specs.Times.{rise_from, rising_at}
 use Rattle.reading.proofs.times.rising.Given as goal
 
 abbrev pub invariant-loop-i : goal.invariant-loop-i
-invariant-loop-i l = (1 ≤ l.i) × (l.i ≤ l.n) × (rise_from l.last (uints 8 (l.n - l.i) l.s (l.at + 8 * l.i)) ≡ rising_at l.n l.s l.at)
-
-abbrev pub decreases-loop-i : goal.decreases-loop-i
-decreases-loop-i l = l.n - l.i
+invariant-loop-i l = rise_from l.last (uints 8 (l.n - l.i) l.s (l.at + 8 * l.i)) ≡ rising_at l.n l.s l.at

@@ -3,8 +3,8 @@
 use Rattle.reading.proofs.TimesLaws.{starts_first, starts_with}
 use Rattle.reading.proofs.times.starts.Goals as goal
 
-pub returns-then-not-later : goal.returns-then-not-later
-returns-then-not-later c = starts_first _ _ _ _ (c.if-not-later.true)
+pub returns-in-None : goal.returns-in-None
+returns-in-None c = starts_first _ _ _ c.in-None.is
 
-pub returns : goal.returns
-returns c = starts_with _ _ _ _ _ (c.if-not-later.false) c.get_u64.ensures
+pub returns-in-Some : goal.returns-in-Some
+returns-in-Some c = starts_with _ _ _ _ _ c.in-Some.is c.get_u64.ensures

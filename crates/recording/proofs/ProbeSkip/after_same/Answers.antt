@@ -9,6 +9,6 @@ pub returns-then-edition-eq-EDITION_2 : goal.returns-then-edition-eq-EDITION_2
 unfolding skip_same
 returns-then-edition-eq-EDITION_2 c = rw (c.ended.ensures, eq-eqb _ _ c.if-edition-eq-EDITION_2.true) refl
 
-pub returns : goal.returns
+pub returns-else-edition-eq-EDITION_2 : goal.returns-else-edition-eq-EDITION_2
 unfolding skip_same
-returns c = rw (ne_eqb _ _ c.if-edition-eq-EDITION_2.false) refl
+returns-else-edition-eq-EDITION_2 c = rw (ne_eqb _ _ c.if-edition-eq-EDITION_2.false) refl

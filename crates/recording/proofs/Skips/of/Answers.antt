@@ -9,6 +9,6 @@ pub returns-then-sender-eq0 : goal.returns-then-sender-eq0
 unfolding skip_of
 returns-then-sender-eq0 c = rw (eq-eqb _ _ c.if-sender-eq0.true) refl
 
-pub returns : goal.returns
+pub returns-else-sender-eq0 : goal.returns-else-sender-eq0
 unfolding skip_of
-returns c = rw (ne_eqb _ _ c.if-sender-eq0.false) refl
+returns-else-sender-eq0 c = rw (ne_eqb _ _ c.if-sender-eq0.false) refl

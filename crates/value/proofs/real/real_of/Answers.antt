@@ -1,7 +1,6 @@
 -- The f64 of a pattern: of a NaN's the one NaN, of any other what the machine gives.
 use mathlib.Core.Path.{◌∙◌, sym}
 use Rattle.value.proofs.RealLaws.{above-nan, below_no_nan, zero-over-zero}
-use borrow.Author.Rules.{rules}
 use Rattle.value.proofs.real.real_of.Goals as goal
 
 pub returns-then-bits-gt9218868437227405312 : goal.returns-then-bits-gt9218868437227405312

@@ -1,2 +1,0 @@
-pub mod SameLaws
-pub mod StartLaws

@@ -1,7 +1,0 @@
--- `take_lines` ends: each line takes a byte at least.
--- Assumes nothing.
-use Rattle.std.proofs.Common.{◌-◌, length}
-use Rattle.images.proofs.take_lines.Given as goal
-
-abbrev pub decreases-loop-at : goal.decreases-loop-at
-decreases-loop-at g l = length l.sheet - l.at

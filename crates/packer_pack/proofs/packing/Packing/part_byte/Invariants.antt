@@ -1,0 +1,11 @@
+-- The working bits are the symbols taken, from the left; of the first byte's places those above the number have none.
+use Rattle.std.proofs.Common.{◌*◌, ◌≤◌}
+use Rattle.value.specs.Class.{class_number, bits_of}
+use Rattle.packer.specs.Given.{number_given}
+use Rattle.packer.proofs.PackLaws.{Taken}
+use Rattle.packer_pack.proofs.packing.Packing.part_byte.Given as goal
+
+abbrev pub invariant-loop-i : goal.invariant-loop-i
+invariant-loop-i g l =
+    let k = class_number l.self.states in
+    (l.i ≤ l.left) × Taken (bits_of k) (l.after * l.each) l.each (number_given (g.S.Source.given l.self.source) k) l.i l.working
