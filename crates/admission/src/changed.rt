@@ -57,7 +57,7 @@ pub fn recorded(state: Encoder, kept: SignalRecord, n: usize, states: States) ->
         },
         kept: SignalRecord {
             index: state.held - 1,
-            top: kept.top.max(states),
+            top: States::join(kept.top, states),
             ..kept
         },
     }

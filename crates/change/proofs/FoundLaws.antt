@@ -69,7 +69,7 @@ module _ (s : Encoder) (r : SignalRecord) (w : List ℕ) (p g : ℕ) (v : Given)
 -- ---- the value
 
 -- decoding refuses by a refusal's number
-abbrev Named : Decoded → Type 0
+abbrev pub Named : Decoded → Type 0
 Named (refuse n) = is_refusal_number n ≡ true
 Named (accept a c) = Unit {0}
 
@@ -95,7 +95,7 @@ named (BitVector w) (real b) = refl
 named Real (real b) = tt
 named Absent (real b) = refl
 
-refused_by : (s : Encoder) (r : SignalRecord) (w : List ℕ) (g : ℕ) (d : Decoded) {n : Refusal} → Named d → decoded_as r.kind d ≡ Err n
+pub refused_by : (s : Encoder) (r : SignalRecord) (w : List ℕ) (g : ℕ) (d : Decoded) {n : Refusal} → Named d → decoded_as r.kind d ≡ Err n
     → found_refused s r w (refusal_number n) ≡ found_by s r w g d
 unfolding found_by
 refused_by s r w g (refuse m) {n} p e = let q : refusal_from m ≡ n = cc in ap (found_refused s r w) (ap refusal_number (sym q) ∙ number_back m p)

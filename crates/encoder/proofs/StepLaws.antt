@@ -20,7 +20,7 @@ use Rattle.plan.specs.Carry.{opened_by, turned_by, closed_by, times_by, carried,
 use Rattle.plan.specs.declared.Begun.{Begun}
 use Rattle.plan.specs.Begin.{begin_of, begin_in, start_carried}
 
-carried-out : (p : Plan) (s : Encoder) (rs rs' : List SignalRecord) (t t' w i j k l : List ℕ)
+pub carried-out : (p : Plan) (s : Encoder) (rs rs' : List SignalRecord) (t t' w i j k l : List ℕ)
     → j ≡ opened_by p t w i → rs' ≡ first_by rewound p.turns rs → k ≡ turned_by p rs j → t' ≡ times_by p t → l ≡ closed_by p w k
     → after (reply_of p.outcome.answer) (memory p.outcome.state rs' t' w l) ≡ carried p (memory s rs t w i)
 carried-out p s rs rs' t t' w i j k l a b c d e = rw (b, d, e, c, a) refl

@@ -11,4 +11,4 @@ pub mod finish;
 pub mod raw;
 pub mod start;
 pub mod time;
-mod turns;
+pub mod turns;

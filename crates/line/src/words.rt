@@ -41,7 +41,7 @@ pub fn after(s: &[u8], k: usize) -> &[u8]
     rest
 }
 
-// FromWord k, counted from 0; an empty one where there are fewer.
+// Word k, counted from 0; an empty one where there are fewer.
 pub fn word(s: &[u8], k: usize) -> &[u8]
     ensures { result.now ≡ spec.word k s.now }
 {

@@ -1,6 +1,7 @@
 -- What holds of a value that may be missing, where it is there: said once of a choice and of a chain, and got out again.
 -- Assumes nothing.
 use Prim.Native.Nat.{◌≤◌}
+use mathlib.Core.Logic.{◌⊎◌, inl, inr}
 use mathlib.Core.Path.{◌≡◌, refl, subst}
 use mathlib.Core.Bool.{Bool, true, false, ◌&&◌, ◌||◌}
 use mathlib.Core.List.{List}
@@ -72,3 +73,8 @@ then_some_pick false x = refl
 pub pick-one : (t : Bool) → pick t 1 0 ≤ 1
 pick-one true = omega arith
 pick-one false = omega arith
+
+-- a variable after a test that may set it: A and B are what the two ways know
+pub pick-came : {X A B : Type 0} {x y r : X} (t : Bool) → (A → t ≡ true) → (B → t ≡ false) → (A × (r ≡ x)) ⊎ (B × (r ≡ y)) → r ≡ pick t x y
+pick-came t f g (inl w) = rw (f w.0) w.1
+pick-came t f g (inr w) = rw (g w.0) w.1

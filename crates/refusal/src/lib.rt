@@ -1,6 +1,6 @@
 // Why a call is refused.
 //
-// Definitions and callers in C know a refusal by its number; specs/Refusal.antt has the numbers. docs/FORMAT.md and include/wejumo.h tell the same.
+// Definitions and callers in C know a refusal by its number; specs/Refusal.antt has the numbers. include/wejumo.h tells the same.
 #![tactic(auto)]
 
 ghost use Rattle.std.specs.Prelude.{◌≡◌};

@@ -62,7 +62,7 @@ pub fn value_digits(call: Call, line: &[u8]) -> &[u8] {
     }
 }
 
-// The lines of a sheet, without their line feeds. What follows the last line feed is a line too: an empty one says nothing.
+// What parts the lines of a sheet. What follows the last line feed is a line too: an empty one says nothing.
 pub fn is_line_feed(byte: &u8) -> bool {
     *byte == b'\n'
 }

@@ -45,7 +45,7 @@ pub enum Call {
 #[derive(Clone, Copy, Debug)]
 pub struct NotUnderstood;
 
-#[derive(Drop)]
+#[derive(Clone, Copy)]
 pub struct Run {
     pub state: State,
     // How many records the recording has, and whether one of them names probe 1.

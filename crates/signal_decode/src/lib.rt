@@ -42,7 +42,7 @@ fn decode_vector(change: Option<BitVecChange>, claim: States) -> Result<DecodedC
         BitVecChange::SingleBit(bit) => (ChangeValue::SingleBit(bit), States::from_bit(bit)),
         BitVecChange::MultiBit(states) => (ChangeValue::MultiBit(states), states),
     };
-    decoded(change, states.max(claim))
+    decoded(change, States::join(states, claim))
 }
 
 // What a VCD value says to a signal of a kind.

@@ -7,6 +7,7 @@ use native.Mathlib.Omega.{arith}
 use lib.ListN.{length}
 use Rattle.value.specs.Class.{class_number, states_of}
 use Rattle.value.proofs.ClassLaws.{number-states, states-number, number_small}
+use Rattle.value.specs.declared.states.States.{States}
 use Rattle.value.specs.declared.states.States.TheVariants.{Two}
 use Rattle.image.specs.Head.{kind_number, kind_from}
 use Rattle.image.proofs.KindLaws.{kind-number}
@@ -51,6 +52,11 @@ unfolding record_from
 stored n h =
     let e = kind-number (n % 4294967296) in
     (ap kind_from e, rw e (omega arith), rw (class-number (n / 4294967296 / 256)) (omega arith), omega arith)
+
+-- a storable record with another index and class
+pub storable-with : (r : SignalRecord) (i : ℕ) (t : States) → Storable r → 3 * i + 2 < 16777216
+    → Storable (record_of r.kind i t r.probe)
+storable-with r i t s h = (s.0, s.1, omega (arith, number_small t), s.3)
 
 -- ---- a list of numbers
 

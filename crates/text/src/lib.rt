@@ -20,10 +20,9 @@ pub fn before(s: &[u8], end: usize) -> &[u8] {
     &s[..end.min(s.len())]
 }
 
-// The bytes from a place on.
+// The bytes from a place on; all of them where the place is past the end.
 pub fn after(s: &[u8], start: usize) -> &[u8] {
-    let from = start.min(s.len());
-    &s[from..]
+    s.get(start..).unwrap_or(s)
 }
 
 pub fn between(s: &[u8], start: usize, end: usize) -> &[u8] {

@@ -3,7 +3,7 @@
 // A value's class is found by cases of its symbols, taking the larger class as it goes: `symbol_class` and `max`, in text and in packed
 // values. Width 1 has one symbol, whose class `from_bit` gives.
 // That this is also the class of the symbol numbers or-ed together is `class-by-or` of proofs/OrLaws.antt.
-ghost use Rattle.std.specs.Prelude.{◌≡◌, ◌≤◌};
+ghost use Rattle.std.specs.Prelude.{◌≡◌, ◌≤◌, max};
 ghost use Rattle.value.specs.Class.{class_number, states_of, class_of, symbol_class, states_or_none, bits_of};
 
 use crate::symbol::Bit;
@@ -69,6 +69,13 @@ impl States {
             2..=3 => States::Four,
             _ => States::Nine,
         }
+    }
+
+    // The larger class.
+    pub fn join(a: States, b: States) -> States
+        ensures { result ≡ states_of (max (class_number a) (class_number b)) }
+    {
+        a.max(b)
     }
 
     // How many bits a symbol takes.
