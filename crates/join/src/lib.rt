@@ -50,8 +50,12 @@ pub fn join_in(first: OpenImage, second: OpenImage, out: &mut [u8]) -> Result<u3
 pub fn join(first: &[u8], second: &[u8], out: &mut [u8]) -> Result<u32, Refusal>
     ensures { join_after (join_reply result) out.new ≡ join_of first.now second.now out.old }
 {
-    match (OpenImage::open(first), OpenImage::open(second)) {
-        (Some(first), Some(second)) => join_in(first, second, out),
-        _ => Err(Refusal::NoImage),
-    }
+    // opening reads all of the bytes, so the second are opened only where the first are an image
+    let Some(first) = OpenImage::open(first) else {
+        return Err(Refusal::NoImage);
+    };
+    let Some(second) = OpenImage::open(second) else {
+        return Err(Refusal::NoImage);
+    };
+    join_in(first, second, out)
 }

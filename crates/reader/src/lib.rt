@@ -8,7 +8,6 @@
 ghost use Rattle.std.specs.Prelude.{◌≡◌, MatchResult, false};
 ghost use Rattle.loaded.specs.Opener.{open_of, stream_of};
 ghost use Rattle.loaded.specs.Reader.{load_reply, load_after, load_of, table_reply, table_after, table_of, cursor_reply, cursor_after, cursor_of};
-ghost use Rattle.refusal.specs.declared.Refusal.TheVariants.{NoImage};
 
 use cursor::cursor_in;
 use loaded::{Found, Loaded};
@@ -19,13 +18,13 @@ use walk::open::OpenImage;
 use walk_part::stream_in;
 use walk_table::table_in;
 
-// The image that bytes are. 11.
-fn image_of<'a>(bytes: &'a [u8]) -> Result<OpenImage<'a>, Refusal>
-    ensures { MatchResult result (λ i. i.bytes.now ≡ bytes.now) (λ r. (r ≡ NoImage) × (open_of bytes.now ≡ false)) }
+// The image that bytes are, or the refusal with which a call answers bytes that are none.
+fn image_of<'a>(bytes: &'a [u8], refusal: Refusal) -> Result<OpenImage<'a>, Refusal>
+    ensures { MatchResult result (λ i. i.bytes.now ≡ bytes.now) (λ r. (r ≡ refusal) × (open_of bytes.now ≡ false)) }
 {
     match OpenImage::open(bytes) {
         Some(image) => Ok(image),
-        None => Err(Refusal::NoImage),
+        None => Err(refusal),
     }
 }
 
@@ -38,14 +37,14 @@ pub fn load(
 ) -> Result<Loaded, Refusal>
     ensures { load_after (load_reply result) index.new bytes.new ≡ load_of image.now signal.0 index.old bytes.old }
 {
-    load_in(image_of(image)?, signal.0, index, bytes)
+    load_in(image_of(image, Refusal::NoImage)?, signal.0, index, bytes)
 }
 
 // The combined table of all blocks' times. 11, 9.
 pub fn table(image: &[u8], out: &mut [u64]) -> Result<u32, Refusal>
     ensures { table_after (table_reply result) out.new ≡ table_of image.now out.old }
 {
-    table_in(image_of(image)?, out)
+    table_in(image_of(image, Refusal::NoImage)?, out)
 }
 
 // The stream of a signal in a block, as the part of the image after its class byte; empty where there is none.
@@ -67,5 +66,5 @@ pub fn cursor(
 ) -> Result<Option<Found>, Refusal>
     ensures { cursor_after (cursor_reply result) out.new ≡ cursor_of image.now signal.0 time out.old }
 {
-    cursor_in(image_of(image)?, signal.0, time, out)
+    cursor_in(image_of(image, Refusal::NoImage)?, signal.0, time, out)
 }

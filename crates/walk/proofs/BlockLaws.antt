@@ -1,11 +1,12 @@
 -- Where an accepted image's blocks begin, that each fits, and what stands at which place of one.
 -- Assumes nothing.
 use Prim.Native.Nat.{ℕ, zero, suc, ◌+◌, ◌-◌, ◌*◌, ◌^◌, ◌≤◌, ◌<◌}
-use mathlib.Core.Path.{◌≡◌, refl, sym, ap, ◌∙◌}
+use mathlib.Core.Path.{◌≡◌, refl, sym, ap, ◌∙◌, subst}
 use mathlib.Core.List.{List, [], ◌∷◌, ◌++◌}
 use mathlib.Core.Option.{Option, none}
 use native.Mathlib.Nat.{add-zero}
 use native.Mathlib.Omega.{arith}
+use native.Mathlib.Decide.{dec_lt}
 use lib.ListN.{length, get_or, take, drop, length-append, take-append-drop}
 use lib.Seq.{drop-cons, take-suc, take-length}
 use Rattle.lists.specs.Bytes.{Bytes}
@@ -53,6 +54,31 @@ unfolding block_place
 end-place b x m =
     ap (λ (l : List (Block (List Entry))). head_size (length x.kinds) + length (blocks_bytes x.kinds l)) (take-length x.blocks)
     ∙ sym (head_at b x m).size
+
+-- ---- a block is known by its place
+
+places-rise : (x : Image) (n d : ℕ) → suc (n + d) ≤ length x.blocks → block_place x n < block_place x (suc (n + d))
+places-rise x n zero h =
+    let z : n + 0 ≡ n = omega arith in
+    rw z (omega (arith, next_place x n (omega arith), block_size_lem (streamed x.kinds (block_at x n))))
+places-rise x n (suc d) h =
+    let z : n + suc d ≡ suc (n + d) = omega arith in
+    rw z (omega (arith, next_place x (suc (n + d)) (omega arith), block_size_lem (streamed x.kinds (block_at x (suc (n + d)))), places-rise x n d (omega arith)))
+
+later-place : (x : Image) (n m : ℕ) → n < m → m < length x.blocks → block_place x n < block_place x m
+later-place x n m h k =
+    let z : suc (n + (m - suc n)) ≡ m = omega arith in
+    subst (λ (i : ℕ). block_place x n < block_place x i) z (places-rise x n (m - suc n) (omega arith))
+
+pub same_block : (n m at : ℕ) (b : List ℕ) → BlockHere n at b → BlockHere m at b → n ≡ m
+same_block n m at b h k = by (dec_lt n m) (dec_lt m n)
+  where
+    by : Dec (n < m) → Dec (m < n) → n ≡ m
+    by (yes p) q = absurd (omega (arith, later-place (image_in b) n m p k.exists, h.place, k.place))
+    by (no p) (yes q) = absurd (omega (arith, later-place (image_in b) m n q h.exists, h.place, k.place))
+    by (no p) (no q) = omega (arith, p, q)
+
+-- ---- what stands there
 
 block-stands : (b : List ℕ) (x : Image) (n : ℕ) → Means b x → n < length x.blocks
     → Stands b (block_place x n) (block_bytes (streamed x.kinds (block_at x n)))

@@ -1,12 +1,48 @@
-// The blocks of an accepted image, one after the other, and their times.
-ghost use Rattle.std.specs.Prelude.{◌≡◌, suc, ◌<◌, ◌≤◌, length, get_or};
+// The blocks of an accepted image, one after the other, and their times. A caller that has no more than the byte at which a block begins reads
+// it by the functions of bytes and that place; who knows its number too has a `Block`, whose methods call them.
+ghost use Rattle.std.specs.Prelude.{◌≡◌, ℕ, suc, ◌<◌, ◌≤◌, length, get_or};
 ghost use Rattle.lists.specs.Last.{last_or};
-ghost use Rattle.walk.specs.Walk.{block_place, SomeBlock};
+ghost use Rattle.loaded.specs.Opener.{block_at};
+ghost use Rattle.walk.specs.Walk.{Opened, image_in, block_place, BlockHere, SomeBlock, TimeHere};
 ghost use Rattle.walk.specs.Open.{image_of, block_of};
 
 use crate::open::{Block, OpenImage};
 use image::layout::{BLOCK_TIMES, head_size, times_place};
 use numbers::little_endian::{get_u32, get_u64};
+
+// Where the next block begins; after the last one, where the image ends.
+pub fn next_block(image: &[u8], at: usize) -> usize
+    requires { Opened image.now × SomeBlock at image.now }
+    ensures { (n : ℕ) → BlockHere n at image.now → result ≡ block_place (image_in image.now) (suc n) }
+{
+    at + get_u32(image, at) as usize
+}
+
+// How many times a block has.
+pub fn times_in(image: &[u8], at: usize) -> u32
+    requires { Opened image.now × SomeBlock at image.now }
+    ensures { (n : ℕ) → BlockHere n at image.now → result ≡ length (block_at (image_in image.now) n).times }
+{
+    get_u32(image, at + BLOCK_TIMES)
+}
+
+// A block's time number i.
+pub fn time_at(image: &[u8], at: usize, i: u32) -> u64
+    requires { Opened image.now × TimeHere at i image.now }
+    ensures { (n : ℕ) → BlockHere n at image.now → result ≡ get_or (block_at (image_in image.now) n).times i 0 }
+{
+    let signals = OpenImage::opened(image).signal_count() as usize;
+    get_u64(image, at + times_place(signals) + 8 * (i as usize))
+}
+
+// A block's last time.
+pub fn last_time(image: &[u8], at: usize) -> u64
+    requires { Opened image.now × SomeBlock at image.now }
+    ensures { (n : ℕ) → BlockHere n at image.now → result ≡ last_or 0 (block_at (image_in image.now) n).times }
+{
+    let held = times_in(image, at);
+    time_at(image, at, held - 1)
+}
 
 impl<'a> OpenImage<'a> {
     // Where the first block begins; without blocks, where the image ends.
@@ -34,10 +70,11 @@ impl<'a> OpenImage<'a> {
         Block { image, number, at }
     }
 
-    // The block that begins at a place.
+    // The block that begins at a place, with its number.
     pub fn block_from(self, place: usize) -> Block<'a>
         requires { SomeBlock place self.bytes.now }
-        ensures { (result.image ≡ self.entry) × (result.at ≡ place) }
+        ensures found { (result.image ≡ self.entry) × (result.at ≡ place) }
+        ensures number { (n : ℕ) → BlockHere n place self.entry.bytes.now → result.number ≡ n }
     {
         let image = self;
         let mut number: u32 = 0;
@@ -70,14 +107,14 @@ impl<'a> Block<'a> {
     pub fn end(self) -> usize
         ensures { result ≡ block_place (image_of self.entry.image) (suc self.entry.number) }
     {
-        self.at + get_u32(self.image.bytes, self.at) as usize
+        next_block(self.image.bytes, self.at)
     }
 
     // How many times it has.
     pub fn time_count(self) -> u32
         ensures { result ≡ length (block_of self.entry).times }
     {
-        get_u32(self.image.bytes, self.at + BLOCK_TIMES)
+        times_in(self.image.bytes, self.at)
     }
 
     // Its time number i.
@@ -85,17 +122,13 @@ impl<'a> Block<'a> {
         requires { i < length (block_of self).times }
         ensures { result ≡ get_or (block_of self.entry).times i 0 }
     {
-        let signals = self.image.signal_count() as usize;
-        get_u64(
-            self.image.bytes,
-            self.at + times_place(signals) + 8 * (i as usize),
-        )
+        time_at(self.image.bytes, self.at, i)
     }
 
     // Its last time.
     pub fn last_time(self) -> u64
         ensures { result ≡ last_or 0 (block_of self.entry).times }
     {
-        self.time(self.time_count() - 1)
+        last_time(self.image.bytes, self.at)
     }
 }
