@@ -3,12 +3,15 @@ ghost use Rattle.std.specs.Prelude.{◌≡◌, ◌+◌, ◌≤◌, length, take,
 ghost use Rattle.std.proofs.lemmas.List.Edits.{sets};
 ghost use Rattle.numbers.specs.LittleEndian.{le, unle};
 
-// Writes the bytes of a number from a place on, and answers the place after them.
+// Writes the bytes of a number from a place on, the first one first, and answers the place after them.
 fn put_bytes<const N: usize>(buf: &mut [u8], at: usize, bytes: [u8; N]) -> usize
     requires { at + N ≤ length buf.old }
     ensures { (result ≡ at + N) × (buf.new ≡ sets buf.old at bytes.entry) }
 {
-    buf[at..at + N].copy_from_slice(&bytes);
+    // not copy_from_slice: docs/FORMAT.md tells what a cut leaves that is broken off, byte by byte, by the order of the stores
+    for i in 0..N {
+        buf[at + i] = bytes[i];
+    }
     at + N
 }
 

@@ -1,9 +1,16 @@
--- What was copied, as a run of stores.
+-- A turn stores one byte.
 -- Assumes nothing.
-use mathlib.Core.Path.{refl}
+use Prim.Native.Nat.{suc, ◌+◌}
+use mathlib.Core.Path.{◌≡◌, refl}
 use native.Mathlib.Omega.{arith}
-use Rattle.lists.proofs.PartLaws.{put-whole}
+use lib.ListN.{length-set}
+use lib.Seq.{drop-cons}
 use Rattle.numbers.proofs.little_endian.put_bytes.Goals as goal
 
-pub returns : goal.returns
-returns g c = (refl, put-whole c.args.buf.now c.args.bytes _ c.args.at _ c.copy_from_slice.ensures.after (omega arith) c.requires)
+pub loop-i-preserved : goal.loop-i-preserved
+loop-i-preserved g c =
+    let l = c.loop-i in
+    let a = c.args in
+    let i1 : a.at + (l.i + 1) ≡ suc (a.at + l.i) = omega arith in
+    let j1 : l.i + 1 ≡ suc l.i = omega arith in
+    (simp length-set l.invariant.0, rw (i1, j1, ← l.invariant.1, drop-cons a.bytes l.i 0 (omega arith)) refl)
