@@ -7,7 +7,8 @@ use mathlib.Core.List.{List, [], ◌∷◌}
 use native.Mathlib.Omega.{arith}
 use lib.Dec.{eqb}
 use lib.Pointwise.{pointwise}
-use lib.ListN.{length, take, drop}
+use lib.ListN.{length, get_or, take, drop}
+use lib.Seq.{drop-cons}
 use Rattle.lists.specs.Same.{same}
 use Rattle.lists.proofs.SameLaws.{same_true, same_self}
 use Rattle.value.specs.Class.{class_number, class_of_all}
@@ -25,6 +26,11 @@ equal_same [] [] = refl
 equal_same [] (y ∷ b) = refl
 equal_same (x ∷ a) [] = refl
 equal_same (x ∷ a) (y ∷ b) = ap (λ (t : Bool). eqb x y && t) (equal_same a b)
+
+-- what one byte of each says
+pub bytes_same : (p q : ℕ) (l : List ℕ) → p < length l → q < length l → eqb (get_or l p 0) (get_or l q 0) ≡ same (take 1 (drop p l)) (take 1 (drop q l))
+unfolding same
+bytes_same p q l h k = rw (drop-cons l p 0 h, drop-cons l q 0 k) (sym (and-true (eqb (get_or l p 0) (get_or l q 0))))
 
 -- ---- symbols and their packed bytes
 
@@ -64,6 +70,11 @@ module _ (w t c m n : ℕ) (a b : List ℕ) (there : PackedThere w t m a) (here 
   pub parts_same : (size : ℕ) (r : Bool) → t ≡ c → size ≡ packed_length w c → r ≡ same (take size (drop (m - size) a)) (take size (drop (n - size) b))
       → r ≡ same (wide_read w t m a) (wide_read w c n b)
   parts_same size r e f g = g ∙ ap (λ (k : ℕ). same (take k (drop (m - k) a)) (take k (drop (n - k) b))) f ∙ wide-same e
+
+  -- of one byte
+  pub byte_same : (size : ℕ) (r : Bool) → t ≡ c → size ≡ packed_length w c → size ≡ 1 → r ≡ same (take 1 (drop (m - size) a)) (take 1 (drop (n - size) b))
+      → r ≡ same (wide_read w t m a) (wide_read w c n b)
+  byte_same size r e f o g = parts_same size r e f (g ∙ ap (λ (k : ℕ). same (take k (drop (m - size) a)) (take k (drop (n - size) b))) (sym o))
 
 -- ---- every kind
 

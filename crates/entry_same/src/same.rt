@@ -10,6 +10,16 @@ use packed_symbols::bytes_required;
 use signal::kind::SignalEncoding;
 use value::states::States;
 
+// Whether the bytes at two places of an image are the same. Most values of up to eight symbols have one byte, for which a call that compares any
+// number of them is dear.
+#[inline(always)]
+fn same_byte(image: &[u8], p: usize, q: usize) -> bool
+    requires { (p < length image.now) × (q < length image.now) }
+    ensures { result ≡ same (take 1 (drop p image.now)) (take 1 (drop q image.now)) }
+{
+    image[p] == image[q]
+}
+
 // Whether count bytes of an image from two places on are the same.
 #[inline(never)]
 fn same_part(image: &[u8], p: usize, q: usize, count: usize) -> bool
@@ -28,6 +38,9 @@ fn same_wide(image: &[u8], width: u32, top: States, end: usize, states: States, 
         return false;
     }
     let size = bytes_required(states, width);
+    if size == 1 {
+        return same_byte(image, end - size, next - size);
+    }
     same_part(image, end - size, next - size, size)
 }
 
