@@ -5,10 +5,11 @@ use mathlib.Core.Path.{◌≡◌, refl, sym, ap, ◌∙◌, subst}
 use mathlib.Core.Bool.{Bool, true, false, ◌&&◌, and-true}
 use mathlib.Core.List.{List, [], ◌∷◌}
 use native.Mathlib.Omega.{arith}
+use borrow.Author.Tests.{eq-eqb, ne_eqb}
+use Rattle.lists.proofs.SetsLaws.{part-more}
 use lib.Dec.{eqb}
 use lib.Pointwise.{pointwise}
 use lib.ListN.{length, get_or, take, drop}
-use lib.Seq.{drop-cons}
 use Rattle.lists.specs.Same.{same}
 use Rattle.lists.proofs.SameLaws.{same_true, same_self}
 use Rattle.value.specs.Class.{class_number, class_of_all}
@@ -27,10 +28,24 @@ equal_same [] (y ∷ b) = refl
 equal_same (x ∷ a) [] = refl
 equal_same (x ∷ a) (y ∷ b) = ap (λ (t : Bool). eqb x y && t) (equal_same a b)
 
--- what one byte of each says
-pub bytes_same : (p q : ℕ) (l : List ℕ) → p < length l → q < length l → eqb (get_or l p 0) (get_or l q 0) ≡ same (take 1 (drop p l)) (take 1 (drop q l))
+-- ---- what a loop says of the bytes from two places on
+
+same_step : (n p q : ℕ) (a b : List ℕ) → p < length a → q < length b
+    → same (take (suc n) (drop p a)) (take (suc n) (drop q b)) ≡ eqb (get_or a p 0) (get_or b q 0) && same (take n (drop (suc p) a)) (take n (drop (suc q) b))
 unfolding same
-bytes_same p q l h k = rw (drop-cons l p 0 h, drop-cons l q 0 k) (sym (and-true (eqb (get_or l p 0) (get_or l q 0))))
+same_step n p q a b h k = rw (part-more n p a h, part-more n q b k) refl
+
+pub same_none : (p q : ℕ) (a b : List ℕ) → same (take 0 (drop p a)) (take 0 (drop q b)) ≡ true
+unfolding same
+same_none p q a b = refl
+
+pub same_next : (n m p q : ℕ) (a b : List ℕ) → n ≡ suc m → p < length a → q < length b → get_or a p 0 ≡ get_or b q 0
+    → same (take n (drop p a)) (take n (drop q b)) ≡ same (take m (drop (suc p) a)) (take m (drop (suc q) b))
+same_next n m p q a b f h k e = rw f (same_step m p q a b h k ∙ rw (eq-eqb (get_or a p 0) (get_or b q 0) e) refl)
+
+pub same_differs : (n m p q : ℕ) (a b : List ℕ) → n ≡ suc m → p < length a → q < length b → (get_or a p 0 ≡ get_or b q 0 → ⊥)
+    → same (take n (drop p a)) (take n (drop q b)) ≡ false
+same_differs n m p q a b f h k e = rw f (same_step m p q a b h k ∙ rw (ne_eqb (get_or a p 0) (get_or b q 0) e) refl)
 
 -- ---- symbols and their packed bytes
 
@@ -70,11 +85,6 @@ module _ (w t c m n : ℕ) (a b : List ℕ) (there : PackedThere w t m a) (here 
   pub parts_same : (size : ℕ) (r : Bool) → t ≡ c → size ≡ packed_length w c → r ≡ same (take size (drop (m - size) a)) (take size (drop (n - size) b))
       → r ≡ same (wide_read w t m a) (wide_read w c n b)
   parts_same size r e f g = g ∙ ap (λ (k : ℕ). same (take k (drop (m - k) a)) (take k (drop (n - k) b))) f ∙ wide-same e
-
-  -- of one byte
-  pub byte_same : (size : ℕ) (r : Bool) → t ≡ c → size ≡ packed_length w c → size ≡ 1 → r ≡ same (take 1 (drop (m - size) a)) (take 1 (drop (n - size) b))
-      → r ≡ same (wide_read w t m a) (wide_read w c n b)
-  byte_same size r e f o g = parts_same size r e f (g ∙ ap (λ (k : ℕ). same (take k (drop (m - size) a)) (take k (drop (n - size) b))) (sym o))
 
 -- ---- every kind
 

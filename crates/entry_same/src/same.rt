@@ -10,16 +10,6 @@ use packed_symbols::bytes_required;
 use signal::kind::SignalEncoding;
 use value::states::States;
 
-// Whether the bytes at two places of an image are the same. Most values of up to eight symbols have one byte, for which a call that compares any
-// number of them is dear.
-#[inline(always)]
-fn same_byte(image: &[u8], p: usize, q: usize) -> bool
-    requires { (p < length image.now) × (q < length image.now) }
-    ensures { result ≡ same (take 1 (drop p image.now)) (take 1 (drop q image.now)) }
-{
-    image[p] == image[q]
-}
-
 // Whether count bytes of an image from two places on are the same.
 #[inline(never)]
 fn same_part(image: &[u8], p: usize, q: usize, count: usize) -> bool
@@ -27,6 +17,20 @@ fn same_part(image: &[u8], p: usize, q: usize, count: usize) -> bool
     ensures { result ≡ same (take count (drop p image.now)) (take count (drop q image.now)) }
 {
     image[p..p + count] == image[q..q + count]
+}
+
+// The same of a few bytes, as most values have: for these a call that compares any number of them is dear.
+#[inline(always)]
+fn same_few(image: &[u8], p: usize, q: usize, count: usize) -> bool
+    requires { (p + count ≤ length image.now) × (q + count ≤ length image.now) }
+    ensures { result ≡ same (take count (drop p image.now)) (take count (drop q image.now)) }
+{
+    for i in 0..count {
+        if image[p + i] != image[q + i] {
+            return false;
+        }
+    }
+    true
 }
 
 // Symbols, packed before two places of an image, are the same exactly where their class and their packed bytes are.
@@ -38,8 +42,8 @@ fn same_wide(image: &[u8], width: u32, top: States, end: usize, states: States, 
         return false;
     }
     let size = bytes_required(states, width);
-    if size == 1 {
-        return same_byte(image, end - size, next - size);
+    if size <= 8 {
+        return same_few(image, end - size, next - size, size);
     }
     same_part(image, end - size, next - size, size)
 }

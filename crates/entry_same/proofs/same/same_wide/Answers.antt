@@ -1,7 +1,7 @@
 -- By the class, then by the bytes.
 use mathlib.Core.Path.{◌∙◌, sym}
 use Rattle.value.specs.Class.{class_number}
-use Rattle.entry_same.proofs.SameLaws.{wide-differs, both-inside, parts_same, byte_same}
+use Rattle.entry_same.proofs.SameLaws.{wide-differs, both-inside, parts_same}
 use Rattle.entry_same.proofs.same.same_wide.Goals as goal
 
 pub returns-then-number : goal.returns-then-number
@@ -25,13 +25,20 @@ same_part-requires c =
     (both-inside a.width (class_number a.top) (class_number a.states) a.end a.next a.image.now a.image.now p.requires.0 p.requires.1 c.bytes_required-size.result
     (sym c.number.ensures ∙ c.if-number.false ∙ c.number-2.ensures) c.bytes_required-size.ensures).0
 
-pub returns-then-size-eq1 : goal.returns-then-size-eq1
-returns-then-size-eq1 c =
+pub same_few-requires : goal.same_few-requires
+same_few-requires c =
     let p = c in
     let a = p.args in
-    byte_same a.width (class_number a.top) (class_number a.states) a.end a.next a.image.now a.image.now p.requires.0 p.requires.1 _ _
-    (sym c.number.ensures ∙ c.if-number.false ∙ c.number-2.ensures) c.bytes_required-size.ensures c.if-size-eq1.true
-    c.same_byte.ensures
+    (both-inside a.width (class_number a.top) (class_number a.states) a.end a.next a.image.now a.image.now p.requires.0 p.requires.1 c.bytes_required-size.result
+    (sym c.number.ensures ∙ c.if-number.false ∙ c.number-2.ensures) c.bytes_required-size.ensures).0
+
+pub returns-then-size-le8 : goal.returns-then-size-le8
+returns-then-size-le8 c =
+    let p = c in
+    let a = p.args in
+    parts_same a.width (class_number a.top) (class_number a.states) a.end a.next a.image.now a.image.now p.requires.0 p.requires.1 _ _
+    (sym c.number.ensures ∙ c.if-number.false ∙ c.number-2.ensures) c.bytes_required-size.ensures
+    c.same_few.ensures
 
 pub returns : goal.returns
 returns c =
