@@ -28,8 +28,38 @@ fn is_handed_on<W: Write>(to: &mut W, run: &Run, call: Call, quiet: bool) -> io:
     }
 }
 
-// Makes a call and answers it. A raw value's bytes stand in memory of their own: a line of a sheet has fewer than 32,768 of them. Of a VCD value
-// the text is taken.
+// Makes a call on a value, and answers it but in a quiet run.
+fn answer_call<W: Write>(
+    to: &mut W,
+    run: &mut Run,
+    call: Call,
+    value: &[u8],
+    memory: &mut Memory,
+    quiet: bool,
+) -> io::Result<()> {
+    let answer = make_call(run, call, value, memory);
+    if !quiet {
+        print_answer(to, run, answer)?;
+        write!(to, "\n")?;
+    }
+    Ok(())
+}
+
+// A raw value's bytes stand in memory of their own, which other calls do not pay for: a line of a sheet has fewer than 32,768 of them.
+fn take_raw<W: Write>(
+    to: &mut W,
+    run: &mut Run,
+    call: Call,
+    line: &[u8],
+    memory: &mut Memory,
+    quiet: bool,
+) -> io::Result<()> {
+    let mut bytes = [0u8; 32768];
+    let n = put_hex(&mut bytes, after(line, 3));
+    answer_call(to, run, call, before(&bytes, n), memory, quiet)
+}
+
+// Takes a call that is handed on, of which a start has its records, with the probes that were named for them. Of a VCD value the text is taken.
 fn take_call<W: Write>(
     to: &mut W,
     run: &mut Run,
@@ -41,23 +71,14 @@ fn take_call<W: Write>(
     if !is_handed_on(to, run, call, quiet)? {
         return Ok(());
     }
-    let mut bytes = [0u8; 32768];
-    let mut value = after(line, 2);
     match call {
-        // its records, with the probes that were named for them
-        Call::Start(_) => run.records = put_kinds(memory.records, line, &run.probes) as u64,
-        Call::Raw(_, _) => {
-            let n = put_hex(&mut bytes, after(line, 3));
-            value = before(&bytes, n);
+        Call::Raw(_, _) => take_raw(to, run, call, line, memory, quiet),
+        Call::Start(_) => {
+            run.records = put_kinds(memory.records, line, &run.probes) as u64;
+            answer_call(to, run, call, after(line, 2), memory, quiet)
         }
-        _ => {}
+        _ => answer_call(to, run, call, after(line, 2), memory, quiet),
     }
-    let answer = make_call(run, call, value, memory);
-    if !quiet {
-        print_answer(to, run, answer)?;
-        write!(to, "\n")?;
-    }
-    Ok(())
 }
 
 // The total of the image that a finish left; 0 before.
