@@ -65,6 +65,11 @@ unfolding after
 after_none zero l e = refl
 after_none (suc k) l e = absurd (omega arith)
 
+pub after_suc : (k : ℕ) (l : List ℕ) → after (suc k) l ≡ past_word (after k l)
+unfolding after
+after_suc zero l = refl
+after_suc (suc k) l = after_suc k (past_word l)
+
 pub after_more : (k : ℕ) (l : List ℕ) → 0 < k → after k l ≡ after (k - 1) (past_word l)
 unfolding after
 after_more zero l h = absurd (omega arith)

@@ -78,7 +78,7 @@ pub trait FromWord: Copy {
         ensures { result ≡ of_word w.now };
 }
 
-// The words after the first so many stand for such, and are at most 256.
+// The words after the first so many stand for such, and are at most 256. Each is looked for behind the one before it.
 pub fn has_words<T: FromWord>(line: &[u8], first: usize) -> bool
     ensures { result ≡ is_some (spec.each_in T.of_word first line.now) }
 {
@@ -86,10 +86,12 @@ pub fn has_words<T: FromWord>(line: &[u8], first: usize) -> bool
     if 256 < n.saturating_sub(first) {
         return false;
     }
+    let mut rest = after(line, first);
     for k in first..n {
-        if T::from_word(word(line, k)).is_none() {
+        if T::from_word(first_word(rest)).is_none() {
             return false;
         }
+        rest = past_word(rest);
     }
     true
 }
