@@ -5,5 +5,5 @@
 // same loops count and write (crate `loader_block`), so that 9 is decided before the first byte is written.
 #![tactic(auto)]
 
-pub mod blocks;
+pub mod every_block;
 pub mod load;

@@ -9,7 +9,7 @@ ghost use Rattle.loaded.specs.Reader.{load_reply, load_after, load_in};
 ghost use Rattle.walk.specs.Open.{image_of};
 ghost use Rattle.loader.specs.Sizes.{too_short, class_answered};
 
-use crate::blocks::load_blocks;
+use crate::every_block::load_blocks;
 use entry::length::entry_len;
 use loaded::Loaded;
 use loader_measure::{least_len, measure_blocks};

@@ -1,7 +1,7 @@
 -- The output holds the entries of the blocks before, and the blocks that are left make of these what all blocks give.
 use Rattle.value.specs.Class.{class_number}
 use Rattle.loader.proofs.BlocksLaws.{Passing}
-use Rattle.loader.proofs.blocks.load_blocks.Given as goal
+use Rattle.loader.proofs.every_block.load_blocks.Given as goal
 
 abbrev pub invariant-loop-number : goal.invariant-loop-number
 invariant-loop-number l =

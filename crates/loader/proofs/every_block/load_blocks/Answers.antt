@@ -6,8 +6,8 @@ use lib.ListN.{length}
 use Rattle.value.specs.Class.{class_number}
 use Rattle.walk.specs.Open.{image_of}
 use Rattle.loader.proofs.BlocksLaws.{passing-first, shared-small, base-early, next-room, next-class, next-times, passing-on, passed}
-use Rattle.loader.proofs.blocks.load_blocks.Goals as goal
-use Rattle.loader.proofs.blocks.load_blocks.Goals.{In-loop-number}
+use Rattle.loader.proofs.every_block.load_blocks.Goals as goal
+use Rattle.loader.proofs.every_block.load_blocks.Goals.{In-loop-number}
 
 -- there is another block
 below : (c : goal.In-loop-number) → c.loop-number.number < length (image_of c.args.image).blocks
