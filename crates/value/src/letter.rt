@@ -17,8 +17,9 @@ pub fn small_letter(value: u8) -> u8
 fn with_case(class: u8, letter: u8, name: u8, symbol: u8) -> u8
     ensures { result ≡ pick (eqb letter name) (symbol_class symbol) class }
 {
+    let found = symbol_class(symbol);
     if letter == name {
-        return symbol_class(symbol);
+        return found;
     }
     class
 }
