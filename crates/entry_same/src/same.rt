@@ -19,7 +19,8 @@ fn same_part(image: &[u8], p: usize, q: usize, count: usize) -> bool
     image[p..p + count] == image[q..q + count]
 }
 
-// The same of a few bytes, as most values have: for these a call that compares any number of them is dear.
+// The same of a few bytes, as most values have: for these a call that compares any number of them is dear. A caller's bound on them is above 8:
+// a loop of at most eight turns is written out turn by turn, and the loop over the changes then has too few registers.
 #[inline(always)]
 fn same_few(image: &[u8], p: usize, q: usize, count: usize) -> bool
     requires { (p + count ≤ length image.now) × (q + count ≤ length image.now) }
@@ -42,7 +43,7 @@ fn same_wide(image: &[u8], width: u32, top: States, end: usize, states: States, 
         return false;
     }
     let size = bytes_required(states, width);
-    if size <= 8 {
+    if size <= 9 {
         return same_few(image, end - size, next - size, size);
     }
     same_part(image, end - size, next - size, size)

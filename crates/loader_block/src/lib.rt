@@ -108,6 +108,8 @@ fn take_change(
 }
 
 // The changes of a signal in a block, whose times begin at index `base` of the combined table.
+// Not inlined: its loop would share the registers with the one over the blocks.
+#[inline(never)]
 pub fn load_block(
     block: Block,
     signal: u32,

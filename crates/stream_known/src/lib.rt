@@ -38,6 +38,8 @@ fn known_value(s: &[u8], at: usize, v: u32, kind: SignalEncoding) -> Option<Read
 }
 
 // The change of a signal of a kind that stands at a place of a stream.
+// Inlined: a caller asks for each change of a stream, and what is read then stays in registers.
+#[inline(always)]
 pub fn known_change(s: &[u8], at: usize, kind: SignalEncoding) -> Option<ReadChange>
     requires { IsChange (change_at kind s.now at) }
     ensures { result ≡ change_at kind s.now at }

@@ -32,8 +32,8 @@ same_few-requires c =
     (both-inside a.width (class_number a.top) (class_number a.states) a.end a.next a.image.now a.image.now p.requires.0 p.requires.1 c.bytes_required-size.result
     (sym c.number.ensures ∙ c.if-number.false ∙ c.number-2.ensures) c.bytes_required-size.ensures).0
 
-pub returns-then-size-le8 : goal.returns-then-size-le8
-returns-then-size-le8 c =
+pub returns-then-size-le9 : goal.returns-then-size-le9
+returns-then-size-le9 c =
     let p = c in
     let a = p.args in
     parts_same a.width (class_number a.top) (class_number a.states) a.end a.next a.image.now a.image.now p.requires.0 p.requires.1 _ _
