@@ -1,2 +1,3 @@
+pub mod FewLaws
 pub mod SameLaws
 pub mod KeptLaws

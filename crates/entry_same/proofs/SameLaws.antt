@@ -10,6 +10,7 @@ use Rattle.lists.proofs.SetsLaws.{part-more}
 use lib.Dec.{eqb}
 use lib.Pointwise.{pointwise}
 use lib.ListN.{length, get_or, take, drop}
+use Rattle.std.proofs.lemmas.List.{get_or-take, get_or-drop}
 use Rattle.lists.specs.Same.{same}
 use Rattle.lists.proofs.SameLaws.{same_true, same_self}
 use Rattle.value.specs.Class.{class_number, class_of_all}
@@ -64,6 +65,22 @@ same_not a b f = by (same a b) refl
     by : (s : Bool) → same a b ≡ s → false ≡ same a b
     by true p = absurd (f (same_true a b p))
     by false p = sym p
+
+-- ---- the last of the bytes before two places
+
+last-byte : (size m : ℕ) (s : List ℕ) → 0 < size → size ≤ m → get_or (take size (drop (m - size) s)) (size - 1) 0 ≡ get_or s (m - 1) 0
+last-byte size m s h k =
+    let e : m - size + (size - 1) ≡ m - 1 = omega arith in
+    get_or-take size (drop (m - size) s) (size - 1) 0 (omega arith) ∙ get_or-drop (m - size) s (size - 1) 0 ∙ ap (λ (i : ℕ). get_or s i 0) e
+
+pub last_differs : (size m n : ℕ) (s : List ℕ) → 0 < size → size ≤ m → size ≤ n → (get_or s (m - 1) 0 ≡ get_or s (n - 1) 0 → ⊥)
+    → false ≡ same (take size (drop (m - size) s)) (take size (drop (n - size) s))
+last_differs size m n s h k l d =
+    same_not _ _ (λ e. d (sym (last-byte size m s h k) ∙ ap (λ (x : List ℕ). get_or x (size - 1) 0) e ∙ last-byte size n s h l))
+
+pub one_same : (m n : ℕ) (s : List ℕ) → 0 < m → m ≤ length s → 0 < n → n ≤ length s → get_or s (m - 1) 0 ≡ get_or s (n - 1) 0
+    → true ≡ same (take 1 (drop (m - 1) s)) (take 1 (drop (n - 1) s))
+one_same m n s h i k j e = sym (same_next 1 0 (m - 1) (n - 1) s s refl (omega arith) (omega arith) e ∙ same_none (suc (m - 1)) (suc (n - 1)) s s)
 
 module _ (w t c m n : ℕ) (a b : List ℕ) (there : PackedThere w t m a) (here : PackedThere w c n b) where
   -- symbols of two classes differ

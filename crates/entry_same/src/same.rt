@@ -1,11 +1,12 @@
 // Whether a change says what another said, without writing it anywhere.
-ghost use Rattle.std.specs.Prelude.{◌≡◌, ◌+◌, ◌≤◌, ◌<◌, length, take, drop};
+ghost use Rattle.std.specs.Prelude.{◌≡◌, ◌+◌, ◌-◌, ◌≤◌, ◌<◌, length, take, drop};
 ghost use Rattle.lists.specs.Same.{same};
 ghost use Rattle.value.specs.Class.{class_number};
 ghost use Rattle.stream.specs.Entries.{repeats};
 ghost use Rattle.entry.specs.Read.{wide_read, content_read, Reads, PackedThere};
 
 use entry::read::PlacedChange;
+use numbers::little_endian::get_u64;
 use packed_symbols::bytes_required;
 use signal::kind::SignalEncoding;
 use value::states::States;
@@ -19,19 +20,16 @@ fn same_part(image: &[u8], p: usize, q: usize, count: usize) -> bool
     image[p..p + count] == image[q..q + count]
 }
 
-// The same of a few bytes, as most values have: for these a call that compares any number of them is dear. A caller's bound on them is above 8:
-// a loop of at most eight turns is written out turn by turn, and the loop over the changes then has too few registers.
+// The same of at most eight bytes before two places, as most values have: a call that compares any number of bytes is dear for these. The
+// eight bytes before a place are a number, of which the last ones are the highest.
 #[inline(always)]
-fn same_few(image: &[u8], p: usize, q: usize, count: usize) -> bool
-    requires { (p + count ≤ length image.now) × (q + count ≤ length image.now) }
-    ensures { result ≡ same (take count (drop p image.now)) (take count (drop q image.now)) }
+fn same_few(image: &[u8], end: usize, next: usize, size: usize) -> bool
+    requires few { (0 < size) × (size ≤ 8) }
+    requires places { (8 ≤ end) × (end ≤ length image.now) × (8 ≤ next) × (next ≤ length image.now) }
+    ensures { result ≡ same (take size (drop (end - size) image.now)) (take size (drop (next - size) image.now)) }
 {
-    for i in 0..count {
-        if image[p + i] != image[q + i] {
-            return false;
-        }
-    }
-    true
+    let others = 64 - 8 * (size as u32);
+    get_u64(image, end - 8) >> others == get_u64(image, next - 8) >> others
 }
 
 // Symbols, packed before two places of an image, are the same exactly where their class and their packed bytes are.
@@ -43,8 +41,19 @@ fn same_wide(image: &[u8], width: u32, top: States, end: usize, states: States, 
         return false;
     }
     let size = bytes_required(states, width);
-    if size <= 9 {
-        return same_few(image, end - size, next - size, size);
+    if size == 0 {
+        return true;
+    }
+    // values that differ mostly do so here
+    if image[end - 1] != image[next - 1] {
+        return false;
+    }
+    if size == 1 {
+        return true;
+    }
+    // an image's head is longer than eight bytes
+    if size <= 8 && 8 <= end && 8 <= next {
+        return same_few(image, end, next, size);
     }
     same_part(image, end - size, next - size, size)
 }

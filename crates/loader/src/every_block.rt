@@ -12,6 +12,8 @@ use walk::open::{Block, OpenImage};
 use walk_table::shared;
 
 // A signal's changes of all blocks, repeats dropped across them.
+// Inlined: `load_block`, which isn't, has a large frame, and the stack holds one frame less.
+#[inline(always)]
 pub fn load_blocks(
     image: OpenImage,
     signal: u32,
